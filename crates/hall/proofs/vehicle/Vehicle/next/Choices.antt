@@ -1,0 +1,10 @@
+use Prim.Native.Nat.{_+_}
+use mathlib.Core.Path.{_≡_}
+use lib.ListN.{drop}
+use Rattle.hall.specs.Log.{nextStep}
+use Rattle.hall.specs.View.{stepsOf}
+use Rattle.hall.proofs.vehicle.Vehicle.next.Given as given
+
+-- none of the steps before i was met
+abbrev pub Inv-loop-i : given.InvT-loop-i
+Inv-loop-i l = nextStep (stepsOf (l .self)) ≡ l .i + nextStep (drop (l .i) (stepsOf (l .self)))

@@ -1,0 +1,10 @@
+pub mod Log
+pub mod Rules
+pub mod Faults
+pub mod View
+pub mod Lasting
+pub mod Hall
+pub mod Automaton
+pub mod Composition
+pub mod Job
+pub mod Series

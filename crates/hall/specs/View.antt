@@ -1,0 +1,23 @@
+-- What the board's table stands for.
+use mathlib.Core.Path.{_≡_}
+use mathlib.Core.List.{List, map}
+use Prim.Native.Nat.{ℕ, _≤_, _<_}
+use lib.ListN.{take, length, getD}
+use Rattle.hall.specs.Log.{Log}
+use Rattle.hall.specs.declared.step.StepRecord.{StepRecord}
+use Rattle.hall.specs.declared.vehicle.Vehicle.{Vehicle}
+
+-- the steps of a vehicle: the first records of its table
+abbrev pub stepsOf : Vehicle → List StepRecord
+stepsOf v = take (v .len) (v .steps)
+
+-- the log of a table of which the first records are vehicles
+abbrev pub logOf : List Vehicle → ℕ → ℕ → Log
+logOf vs count minute = record { minute = minute; vehicles = map stepsOf (take count vs) }
+
+-- each vehicle of the table counts its steps within its own table, which has eight records
+abbrev pub Counted : List Vehicle → Type 0
+Counted vs = (k : ℕ) (d : Vehicle) → k < length vs → getD vs k d .len ≤ 8
+
+abbrev pub Filled : List Vehicle → Type 0
+Filled vs = (k : ℕ) (d : Vehicle) → k < length vs → length (getD vs k d .steps) ≡ 8

@@ -1,0 +1,5 @@
+pub mod Fields
+pub mod Readings
+pub mod Running
+pub mod Printing
+pub mod Outcomes

@@ -1,0 +1,5 @@
+pub mod Faults
+pub mod Reading
+pub mod Line
+pub mod Run
+pub mod Texts

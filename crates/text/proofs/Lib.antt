@@ -1,0 +1,5 @@
+pub mod Splits
+pub mod Pieces
+pub mod ReadOn
+pub mod Puts
+pub mod Texts
