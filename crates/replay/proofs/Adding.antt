@@ -34,7 +34,7 @@ not-refused xs t f e room = ok-err (length t) f (e ∙ ap (λ d. sheetAnswer (d 
 
 -- the place's front is the text
 pub front : (xs t : List ℕ) (n : ℕ) (place : List ℕ) → Ok n ≡ sheetAnswer (printedInto t xs .0) → place ≡ printedInto t xs .1
-  → length t ≤ length xs → take (n - 0) place ≡ t
+    → length t ≤ length xs → take (n - 0) place ≡ t
 unfolding putAt
 front xs t n place e q room =
     let c : n - 0 ≡ length t = omega (arith, counted xs t n e room) in
@@ -42,6 +42,6 @@ front xs t n place e q room =
 
 -- where there was memory, what was added stands at the end
 pub added : {T E : Type 0} (r : Result T E) (old new more t : List ℕ) → new ≡ cond (isOk r) (old ++ more) old → more ≡ t
-  → made r (λ _. new ≡ old ++ t)
+    → made r (λ _. new ≡ old ++ t)
 added (Ok u) old new more t e q = e ∙ ap (λ l. old ++ l) q
 added (Err f) old new more t e q = tt

@@ -29,7 +29,7 @@ no-entry k b (Err f) h = let z : _≡_ {A = ℕ} 0 1 = cc in omega arith
 module _ (k : ℕ) (log : Log) where
   -- an accepted line shows its entry, and the lines behind it follow
   pub shows-entry : (ls : List (List ℕ)) (e : Entry) → Ok (Some e) ≡ nextOf k ls log
-    → (0 < length ls) × (linesText k ls log ≡ entryText e ++ linesText (numberNext k ls) (drop 1 ls) (logNext ls log))
+      → (0 < length ls) × (linesText k ls log ≡ entryText e ++ linesText (numberNext k ls) (drop 1 ls) (logNext ls log))
   shows-entry [] e h = absurd (let z : _≡_ {A = ℕ} 0 1 = cc in omega arith)
   shows-entry (l ∷ ls) e h = (omega arith, ap (λ r. shownBefore r (linesText (k + 1) ls (lineLog log l))) (sym h))
 
@@ -52,13 +52,13 @@ stays-shut bs f h = ap openedText h
 
 -- one more entry is shown
 pub shows-more : (shown new whole : List ℕ) (k k′ : ℕ) (ls ls′ : List (List ℕ)) (log log′ : Log) (e : Entry)
-  → Ok (Some e) ≡ nextOf k ls log → new ≡ shown ++ entryText e → k′ ≡ numberNext k ls → ls′ ≡ drop 1 ls → log′ ≡ logNext ls log
-  → shown ++ linesText k ls log ≡ whole → new ++ linesText k′ ls′ log′ ≡ whole
+    → Ok (Some e) ≡ nextOf k ls log → new ≡ shown ++ entryText e → k′ ≡ numberNext k ls → ls′ ≡ drop 1 ls → log′ ≡ logNext ls log
+    → shown ++ linesText k ls log ≡ whole → new ++ linesText k′ ls′ log′ ≡ whole
 shows-more shown new whole k k′ ls ls′ log log′ e h n p q r w =
     ap (λ t. t ++ linesText k′ ls′ log′) n
     ∙ (append-assoc shown (entryText e) (linesText k′ ls′ log′)
     ∙ (ap (λ t. shown ++ (entryText e ++ t))
-        (ap (λ i. linesText i ls′ log′) p ∙ (ap (λ l. linesText (numberNext k ls) l log′) q ∙ ap (linesText (numberNext k ls) (drop 1 ls)) r))
+    (ap (λ i. linesText i ls′ log′) p ∙ (ap (λ l. linesText (numberNext k ls) l log′) q ∙ ap (linesText (numberNext k ls) (drop 1 ls)) r))
     ∙ (ap (λ t. shown ++ t) (sym (shows-entry k log ls e h .1)) ∙ w)))
 
 -- a run that stopped

@@ -1,5 +1,5 @@
 -- What an answer tells: of a line, of a new cursor and of a cursor's next line.
-use mathlib.Core.Path.{_≡_, refl, sym, ap, _∙_}
+use mathlib.Core.Path.{_≡_, refl, sym, ap}
 use mathlib.Core.Bool.{Bool, true, false, cond}
 use mathlib.Core.List.{List, [], _∷_}
 use Prim.Native.Nat.{ℕ, _≤_, _<_}
@@ -12,7 +12,7 @@ use Rattle.std.specs.declared.result.Result.{Result}
 use Rattle.std.specs.declared.result.Result.the-variants.{Ok, Err}
 use Rattle.hall.specs.declared.fault.BoardFault.{BoardFault}
 use Rattle.hall.specs.Log.{Log}
-use Rattle.hall.specs.Rules.{Call, answerTo, written, after, logAfter}
+use Rattle.hall.specs.Rules.{Call, answerTo, written, after}
 use Rattle.text.specs.Split.{parted, ended}
 use Rattle.sheet.specs.declared.fault.LineFault.{LineFault}
 use Rattle.sheet.specs.declared.fault.SheetFault.{SheetFault}
@@ -20,7 +20,7 @@ use Rattle.sheet.specs.declared.fault.SheetFault.the-variants.{TooLong, AtLine
 use Rattle.sheet.specs.declared.run.Cursor.{Cursor}
 use Rattle.sheet.specs.declared.run.Entry.{Entry}
 use Rattle.sheet.specs.Line.{placedOf, answerRead, logRead, lineAnswer, lineLog}
-use Rattle.sheet.specs.Reading.{onOk, readingOf}
+use Rattle.sheet.specs.Reading.{readingOf}
 use Rattle.sheet.specs.Run.{left, number, standing, openedOf, entryOf, nextOf}
 
 placed-accepted : (fs : List (List ℕ)) (n : ℕ) (a : Result ℕ BoardFault) → Ok n ≡ placedOf fs a → Ok n ≡ a

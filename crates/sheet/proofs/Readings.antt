@@ -8,7 +8,7 @@ use lib.ListN.{length, take, drop, getD}
 use Rattle.std.proofs.shelf.Lists.{getD-take}
 use Rattle.std.specs.declared.option.Option.the-variants.{Some, None}
 use Rattle.std.specs.declared.result.Result.{Result}
-use Rattle.std.specs.declared.result.Result.the-variants.{Ok, Err}
+use Rattle.std.specs.declared.result.Result.the-variants.{Err}
 use Rattle.text.specs.Split.{before, parted, tally}
 use Rattle.text.proofs.Splits.{parted-first, piece-bytes, length-parted}
 use Rattle.sheet.specs.declared.fault.LineFault.{LineFault}

@@ -1,7 +1,7 @@
 -- The lines of a sheet, one after another.
-use mathlib.Core.Path.{_≡_, refl, sym, ap, _∙_, subst}
+use mathlib.Core.Path.{_≡_, sym, ap, _∙_, subst}
 use mathlib.Core.List.{List, [], _∷_}
-use Prim.Native.Nat.{ℕ, _+_, _-_, _<_, _≤_, min}
+use Prim.Native.Nat.{ℕ, _+_, _-_, _<_, min}
 use native.Mathlib.Nat.{add-zero}
 use native.Mathlib.Omega.{arith}
 use lib.ListN.{length, take, drop, getD}
@@ -43,8 +43,7 @@ past-same xs n =
     (λ l. drop-all (min n (length xs)) xs (omega arith) ∙ sym (drop-all n xs l))
     (cases-lt n (length xs))
 
--- the line of xs that begins at `at` and ends at `end`
--- what is refused
+-- a fact of what was refused
 pub refused-from-err : {T E : Type 0} (r : Result T E) (P : E → Type 0) (e : E) → r ≡ Err e → P e → refused r P
 refused-from-err {T} {E} r P e q h = let F : Result T E → Type 0 = λ x. refused x P in subst F (sym q) h
 

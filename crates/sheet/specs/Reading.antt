@@ -1,7 +1,8 @@
 -- What a line of a sheet asks for.
 use mathlib.Core.Bool.{Bool, cond, _&&_}
 use mathlib.Core.List.{List, [], _∷_}
-use Prim.Native.Nat.{ℕ, suc, zero, _+_, _%_, _≤_}
+use mathlib.Core.Path.{_≡_}
+use Prim.Native.Nat.{ℕ, suc, zero, _+_, _%_, _<_, _≤_}
 use lib.Dec.{leb, eqb}
 use lib.ListN.{length, take, drop, getD}
 use Rattle.std.specs.declared.option.Option.{Option}
@@ -46,6 +47,11 @@ offsetOf (f ∷ []) zero = 0
 offsetOf (f ∷ []) (suc k) = length f
 offsetOf (f ∷ g ∷ fs) zero = 0
 offsetOf (f ∷ g ∷ fs) (suc k) = length f + 1 + offsetOf (g ∷ fs) k
+
+-- what an offset means: the bytes of each field of a line stand there
+abbrev pub Fields-stand : List ℕ → Type 0
+Fields-stand bs =
+    (k : ℕ) → k < length (parted 9 bs) → take (length (getD (parted 9 bs) k [])) (drop (offsetOf (parted 9 bs) k) bs) ≡ getD (parted 9 bs) k []
 
 -- what field k of a line of this kind writes: lengths and minutes, or the number of a station or a vehicle
 abbrev pub valueOf : Kind → ℕ → List ℕ → Result ℕ NumberFault

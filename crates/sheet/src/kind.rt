@@ -3,6 +3,10 @@ ghost use mathlib.Core.Path.{_≡_};
 ghost use Prim.Native.Nat.{_+_};
 ghost use Rattle.sheet.specs.Reading.{kindOf, countFits};
 
+// The most pairs of station and length that a vehicle's line has.
+const MOST_PAIRS: usize = 8;
+
+// What a line is about: a vehicle that enters, a step that begins or finishes, or minutes that pass.
 #[derive(Clone, Copy)]
 pub(crate) enum Kind {
     Vehicle,
@@ -33,7 +37,7 @@ pub(crate) fn count_fits(kind: Kind, tabs: usize) -> bool
     ensures { λ r. ⌜ r ≡ countFits kind (tabs + 1) ⌝ }
 {
     match kind {
-        Kind::Vehicle => tabs >= 2 && tabs <= 16 && tabs % 2 == 0,
+        Kind::Vehicle => tabs >= 2 && tabs <= 2 * MOST_PAIRS && tabs % 2 == 0,
         _ => tabs == 1,
     }
 }

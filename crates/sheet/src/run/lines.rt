@@ -1,6 +1,6 @@
 // The lines of a sheet, run in order.
 ghost use mathlib.Core.Path.{_≡_};
-ghost use Prim.Native.Nat.{_+_, _≤_, min};
+ghost use Prim.Native.Nat.{_+_, min};
 ghost use lib.ListN.{length, drop};
 ghost use Rattle.std.specs.Vec.{made, refused};
 ghost use Rattle.hall.specs.Hall.{hallLog};

@@ -34,5 +34,5 @@ pub returns : need.returns
 returns c =
     let bs = c .args .text .now in
     let none = shows-none (number (c .loop-entry .cursor)) (hallLog (c .loop-entry .board)) (left bs (c .loop-entry .cursor))
-          (ap Ok (sym (c .in-rest .is)) ∙ c .in-Continue-entry .ensures tt .answer) in
+    (ap Ok (sym (c .in-rest .is)) ∙ c .in-Continue-entry .ensures tt .answer) in
     sym (append-nil (vec-items (c .loop-entry .shown))) ∙ (ap (λ t. vec-items (c .loop-entry .shown) ++ t) (sym none) ∙ c .loop-entry .inv)

@@ -1,4 +1,4 @@
-use mathlib.Core.Path.{_≡_, sym, ap, _∙_, subst}
+use mathlib.Core.Path.{sym, ap, _∙_, subst}
 use native.Mathlib.Nat.{sub-zero}
 use lib.ListN.{take}
 use Rattle.hall.specs.Hall.{Called}

@@ -1,12 +1,12 @@
 use mathlib.Core.Path.{_≡_, refl, sym, ap, _∙_}
-use mathlib.Core.List.{List, [], _∷_, _++_, append-nil}
-use Prim.Native.Nat.{ℕ, _+_, _-_, _<_, _≤_}
+use mathlib.Core.List.{[], _∷_, _++_, append-nil}
+use Prim.Native.Nat.{_+_}
 use native.Mathlib.Omega.{arith}
-use lib.ListN.{length, take, drop, set}
+use lib.ListN.{length, take, drop}
 use Rattle.std.proofs.shelf.Lists.{length-set, length-drop, drop-all, take-more-set}
 use Rattle.std.proofs.shelf.Results.{err-from-errBy, made-from-err}
 use Rattle.std.specs.declared.result.Result.the-variants.{Ok, Err}
-use Rattle.text.specs.Split.{before, parted}
+use Rattle.text.specs.Split.{parted}
 use Rattle.sheet.specs.Reading.{valuesOf, onOk, listed}
 use Rattle.text.proofs.Splits.{length-parted}
 use Rattle.sheet.proofs.Fields.{onOk-id, first-field, fields-on, fields-none, turn-stop, turn-more}
