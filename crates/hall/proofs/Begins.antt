@@ -41,21 +41,20 @@ module _ (l : Log) (v : ℕ) where
 
   module _ (a : v < length (l .vehicles)) (b : length (vehicleAt l v) ≤ runningStep (vehicleAt l v))
       (c : nextStep (vehicleAt l v) < length (vehicleAt l v)) where
-    pub begin-taken : taken (stepAt l v (nextStep (vehicleAt l v)) .station) (l .vehicles) ≡ true
-        → Err StationTaken ≡ beginAnswer l v
-    begin-taken t =
+    -- the last test is the station's
+    begin-by-station : (t : Bool) → taken (stepAt l v (nextStep (vehicleAt l v)) .station) (l .vehicles) ≡ t
+        → cond t (Err StationTaken) (Ok (nextStep (vehicleAt l v))) ≡ beginAnswer l v
+    begin-by-station s t =
         let p : leb (length (l .vehicles)) v ≡ false = lt-leb _ _ a in
         let q : ltb (runningStep (vehicleAt l v)) (length (vehicleAt l v)) ≡ false = le-ltb _ _ b in
         let r : leb (length (vehicleAt l v)) (nextStep (vehicleAt l v)) ≡ false = lt-leb _ _ c in
         simp (p, q, r, t)
 
-    pub begin-ok : taken (stepAt l v (nextStep (vehicleAt l v)) .station) (l .vehicles) ≡ false
-        → Ok (nextStep (vehicleAt l v)) ≡ beginAnswer l v
-    begin-ok t =
-        let p : leb (length (l .vehicles)) v ≡ false = lt-leb _ _ a in
-        let q : ltb (runningStep (vehicleAt l v)) (length (vehicleAt l v)) ≡ false = le-ltb _ _ b in
-        let r : leb (length (vehicleAt l v)) (nextStep (vehicleAt l v)) ≡ false = lt-leb _ _ c in
-        simp (p, q, r, t)
+    pub begin-taken : taken (stepAt l v (nextStep (vehicleAt l v)) .station) (l .vehicles) ≡ true → Err StationTaken ≡ beginAnswer l v
+    begin-taken = begin-by-station true
+
+    pub begin-ok : taken (stepAt l v (nextStep (vehicleAt l v)) .station) (l .vehicles) ≡ false → Ok (nextStep (vehicleAt l v)) ≡ beginAnswer l v
+    begin-ok = begin-by-station false
 
 -- what is known of a begin that is accepted
 pub record MayBegin (l : Log) (v n : ℕ) : Type 0 where

@@ -23,21 +23,20 @@ module _ (l : Log) (v : ℕ) where
       let q : leb (length (vehicleAt l v)) (runningStep (vehicleAt l v)) ≡ true = le-leb _ _ b in
       simp (p, q)
 
-  pub finish-early : (n : ℕ) → n ≡ runningStep (vehicleAt l v) → v < length (l .vehicles) → n < length (vehicleAt l v)
-      → l .minute < beginOf (stepAt l v n .progress) + leastTime (stepAt l v n .length) → Err TooEarly ≡ finishAnswer l v
-  finish-early n e a b c =
-      let p : leb (length (l .vehicles)) v ≡ false = lt-leb _ _ a in
-      let q : leb (length (vehicleAt l v)) n ≡ false = lt-leb _ _ b in
-      let r : ltb (l .minute) (beginOf (stepAt l v n .progress) + leastTime (stepAt l v n .length)) ≡ true = lt-ltb _ _ c in
-      simp (runningBegin, runningLength, sym e, p, q, r)
+  module _ (n : ℕ) (e : n ≡ runningStep (vehicleAt l v)) (a : v < length (l .vehicles)) (b : n < length (vehicleAt l v)) where
+    -- the last test is the step's least time
+    finish-by-time : (t : Bool) → ltb (l .minute) (beginOf (stepAt l v n .progress) + leastTime (stepAt l v n .length)) ≡ t
+        → cond t (Err TooEarly) (Ok n) ≡ finishAnswer l v
+    finish-by-time s t =
+        let p : leb (length (l .vehicles)) v ≡ false = lt-leb _ _ a in
+        let q : leb (length (vehicleAt l v)) n ≡ false = lt-leb _ _ b in
+        simp (runningBegin, runningLength, sym e, p, q, t)
 
-  pub finish-ok : (n : ℕ) → n ≡ runningStep (vehicleAt l v) → v < length (l .vehicles) → n < length (vehicleAt l v)
-      → beginOf (stepAt l v n .progress) + leastTime (stepAt l v n .length) ≤ l .minute → Ok n ≡ finishAnswer l v
-  finish-ok n e a b c =
-      let p : leb (length (l .vehicles)) v ≡ false = lt-leb _ _ a in
-      let q : leb (length (vehicleAt l v)) n ≡ false = lt-leb _ _ b in
-      let r : ltb (l .minute) (beginOf (stepAt l v n .progress) + leastTime (stepAt l v n .length)) ≡ false = le-ltb _ _ c in
-      simp (runningBegin, runningLength, sym e, p, q, r)
+    pub finish-early : l .minute < beginOf (stepAt l v n .progress) + leastTime (stepAt l v n .length) → Err TooEarly ≡ finishAnswer l v
+    finish-early c = finish-by-time true (lt-ltb _ _ c)
+
+    pub finish-ok : beginOf (stepAt l v n .progress) + leastTime (stepAt l v n .length) ≤ l .minute → Ok n ≡ finishAnswer l v
+    finish-ok c = finish-by-time false (le-ltb _ _ c)
 
 -- what is known of a finish that is accepted
 pub record MayFinish (l : Log) (v n : ℕ) : Type 0 where

@@ -9,7 +9,6 @@ pub mod Spots
 pub mod Keeping
 pub mod KeptByEnter
 pub mod Kept
-pub mod Marks
 pub mod Answering
 pub mod Stages
 pub mod Configurations
@@ -17,3 +16,4 @@ pub mod BeginSteps
 pub mod FinishSteps
 pub mod PassSteps
 pub mod HallRuns
+pub mod Marks

@@ -1,19 +1,21 @@
 -- One row of a board's table, as the log has it.
 use mathlib.Core.Path.{_≡_, refl, sym, _∙_, ap}
+use mathlib.Core.Bool.{Bool}
 use mathlib.Core.List.{List, [], map}
 use Prim.Native.Nat.{ℕ, _<_, _≤_}
 use native.Mathlib.Omega.{arith}
 use lib.ListN.{length, getD, set, take}
 use lib.Seq.{take-set-lt}
 use Rattle.std.proofs.shelf.Lists.{map-set}
-use Rattle.hall.specs.Log.{Log, vehicleAt, stepAt, blank, reached, marked}
-use Rattle.hall.specs.View.{stepsOf, logOf}
+use Rattle.std.specs.declared.option.Option.the-variants.{Some, None}
+use Rattle.hall.specs.Log.{Log, nextStep, taken, vehicleAt, stepAt, blank, reached, marked}
+use Rattle.hall.specs.View.{stepsOf, stepIn, logOf}
 use Rattle.hall.specs.Hall.{hallLog}
 use Rattle.hall.specs.declared.board.Board.{Board}
 use Rattle.hall.specs.declared.vehicle.Vehicle.{Vehicle}
 use Rattle.hall.specs.declared.step.StepRecord.{StepRecord}
 use Rattle.hall.specs.declared.step.Progress.{Progress}
-use Rattle.hall.proofs.Views.{length-lists, lists-at, length-row, row-at, bare}
+use Rattle.hall.proofs.Views.{length-lists, lists-at, length-row, row-at, bare, some-step, none-step}
 
 abbrev log : ℕ → List (List StepRecord) → Log
 log m vs = record { minute = m; vehicles = vs }
@@ -40,6 +42,26 @@ module _ (b : Board) (v : ℕ) (lt : v < b .count) where
   pub row-step : (j : ℕ) → j < getD (b .vehicles) v bare .len
       → stepAt (hallLog b) v j ≡ getD (getD (b .vehicles) v bare .steps) j blank
   row-step j l = ap (λ r. getD r j blank) row ∙ row-at (getD (b .vehicles) v bare) j l
+
+  -- a step that is found in the table is found in the log, and one that is not is not
+  pub row-some : (f : List StepRecord → ℕ) (i : ℕ) → Some i ≡ stepIn (getD (b .vehicles) v bare .len) (f (stepsOf (getD (b .vehicles) v bare)))
+      → (f (vehicleAt (hallLog b) v) ≡ i) × (i < length (vehicleAt (hallLog b) v))
+  row-some f i h =
+      let s = some-step (getD (b .vehicles) v bare .len) i (f (stepsOf (getD (b .vehicles) v bare))) h in
+      (ap f row ∙ s .0, omega (arith, s .1, row-length))
+
+  pub row-none : (f : List StepRecord → ℕ) → None ≡ stepIn (getD (b .vehicles) v bare .len) (f (stepsOf (getD (b .vehicles) v bare)))
+      → length (vehicleAt (hallLog b) v) ≤ f (vehicleAt (hallLog b) v)
+  row-none f h =
+      omega (arith, none-step (getD (b .vehicles) v bare .len) (f (stepsOf (getD (b .vehicles) v bare))) h, row-length, ap f row)
+
+  -- whether the station of a step is taken
+  pub row-taken : (n : ℕ) (t : Bool) → nextStep (vehicleAt (hallLog b) v) ≡ n → n < length (vehicleAt (hallLog b) v)
+      → t ≡ taken (getD (getD (b .vehicles) v bare .steps) n blank .station) (hallLog b .vehicles)
+      → taken (stepAt (hallLog b) v (nextStep (vehicleAt (hallLog b) v)) .station) (hallLog b .vehicles) ≡ t
+  row-taken n t e l h =
+      ap (λ k. taken (stepAt (hallLog b) v k .station) (hallLog b .vehicles)) e
+      ∙ (ap (λ r. taken (r .station) (hallLog b .vehicles)) (row-step n (omega (arith, l, row-length))) ∙ sym h)
 
   -- writing one step's progress in the table marks that step in the log
   pub row-marked : (j : ℕ) (p : Progress) (w : Vehicle) → j < getD (b .vehicles) v bare .len

@@ -1,13 +1,16 @@
 -- A board's table and the log that it stands for.
 use mathlib.Core.Path.{_≡_, refl, sym, _∙_, ap}
-use mathlib.Core.Bool.{Bool, true, false, _&&_, _||_}
+use mathlib.Core.Bool.{Bool, true, false, cond, _&&_, _||_}
 use mathlib.Core.List.{List, [], map}
 use Prim.Native.Nat.{ℕ, _+_, _<_, _≤_}
 use native.Mathlib.Omega.{arith}
+use lib.Dec.{ltb}
 use lib.ListN.{length, getD, take, drop, set, length-take}
 use Rattle.std.proofs.shelf.Lists.{getD-take, length-take-le, at-drop-more, at-drop-all, length-map, getD-map}
+use Rattle.std.proofs.shelf.Tests.{lt-ltb, le-ltb, ltb-true, ltb-false}
+use Rattle.std.specs.declared.option.Option.the-variants.{Some, None}
 use Rattle.hall.specs.Log.{taken, occupies, blank}
-use Rattle.hall.specs.View.{stepsOf}
+use Rattle.hall.specs.View.{stepsOf, stepIn}
 use Rattle.hall.specs.declared.step.StepRecord.{StepRecord}
 use Rattle.hall.specs.declared.vehicle.Vehicle.{Vehicle}
 
@@ -46,3 +49,24 @@ length-row v a b = length-take-le (v .len) (v .steps) (omega arith)
 
 pub row-at : (v : Vehicle) (j : ℕ) → j < v .len → getD (stepsOf v) j blank ≡ getD (v .steps) j blank
 row-at v j l = getD-take (v .len) (v .steps) j blank l
+
+-- which step a number gives
+pub step-some : (k i n : ℕ) → i ≡ n → i < k → Some i ≡ stepIn k n
+step-some k i n e lt = let t : ltb n k ≡ true = lt-ltb _ _ (omega arith) in simp t (ap Some e)
+
+pub step-none : (k n : ℕ) → k ≤ n → None ≡ stepIn k n
+step-none k n ge = let t : ltb n k ≡ false = le-ltb _ _ ge in simp t
+
+pub some-step : (k i n : ℕ) → Some i ≡ stepIn k n → (n ≡ i) × (i < k)
+some-step k i n h = by (ltb n k) refl h
+  where
+    by : (t : Bool) → ltb n k ≡ t → Some i ≡ cond t (Some n) None → (n ≡ i) × (i < k)
+    by true e q = let s : n ≡ i = cc in (s, omega (arith, ltb-true _ _ e))
+    by false e q = let z : _≡_ {A = ℕ} 0 1 = cc in absurd (omega arith)
+
+pub none-step : (k n : ℕ) → None ≡ stepIn k n → k ≤ n
+none-step k n h = by (ltb n k) refl h
+  where
+    by : (t : Bool) → ltb n k ≡ t → None ≡ cond t (Some n) None → k ≤ n
+    by true e q = let z : _≡_ {A = ℕ} 0 1 = cc in absurd (omega arith)
+    by false e q = ltb-false _ _ e

@@ -1,8 +1,12 @@
 -- What the board's table stands for.
 use mathlib.Core.Path.{_≡_}
+use mathlib.Core.Bool.{cond}
 use mathlib.Core.List.{List, map}
 use Prim.Native.Nat.{ℕ, _≤_, _<_}
+use lib.Dec.{ltb}
 use lib.ListN.{take, length, getD}
+use Rattle.std.specs.declared.option.Option.{Option}
+use Rattle.std.specs.declared.option.Option.the-variants.{Some, None}
 use Rattle.hall.specs.Log.{Log}
 use Rattle.hall.specs.declared.step.StepRecord.{StepRecord}
 use Rattle.hall.specs.declared.vehicle.Vehicle.{Vehicle}
@@ -10,6 +14,10 @@ use Rattle.hall.specs.declared.vehicle.Vehicle.{Vehicle}
 -- the steps of a vehicle: the first records of its table
 abbrev pub stepsOf : Vehicle → List StepRecord
 stepsOf v = take (v .len) (v .steps)
+
+-- step n of a vehicle with k steps, if it has so many
+abbrev pub stepIn : ℕ → ℕ → Option ℕ
+stepIn k n = cond (ltb n k) (Some n) None
 
 -- the log of a table of which the first records are vehicles
 abbrev pub logOf : List Vehicle → ℕ → ℕ → Log

@@ -5,12 +5,18 @@ ghost use lib.ListN.{getD, set, length};
 ghost use mathlib.Core.List.{map};
 ghost use Rattle.hall.specs.Log.{nextStep, runningStep, occupies, blank, reached, beginOf};
 ghost use Rattle.hall.specs.Rules.{booked, stepFault};
-ghost use Rattle.hall.specs.View.{stepsOf};
+ghost use Rattle.hall.specs.View.{stepsOf, stepIn};
 ghost use Rattle.hall.specs.declared.step.Progress.the-variants.{Running, Done};
 use crate::fault::BoardFault;
 use crate::step::Progress;
 use crate::step::Step;
 use crate::step::StepRecord;
+
+// Stations are numbered from 0 up to this one.
+const LAST_STATION: u32 = 15;
+
+// The longest step, in minutes.
+const LONGEST_STEP: u32 = 1440;
 
 // The first `len` of the records are the vehicle's steps.
 #[derive(Clone, Copy)]
@@ -20,32 +26,32 @@ pub struct Vehicle {
 }
 
 impl Vehicle {
-    // The number of the next step to begin; the number of steps where none is left.
-    pub(crate) fn next(&self) -> usize
+    // The number of the next step to begin, where one is left.
+    pub(crate) fn next(&self) -> Option<usize>
         requires { ⌜ now self .len ≤ 8 ⌝ }
-        ensures { λ r. ⌜ r ≡ nextStep (stepsOf (now (self .entry))) ⌝ }
+        ensures { λ r. ⌜ r ≡ stepIn (now (self .entry) .len) (nextStep (stepsOf (now (self .entry)))) ⌝ }
     {
         for i in 0..self.len {
             let record = self.steps[i];
             if let Progress::Waiting = record.progress {
-                return i;
+                return Some(i);
             }
         }
-        self.len
+        None
     }
 
-    // The number of the running step; the number of steps where none runs.
-    pub(crate) fn running(&self) -> usize
+    // The number of the running step, where one runs.
+    pub(crate) fn running(&self) -> Option<usize>
         requires { ⌜ now self .len ≤ 8 ⌝ }
-        ensures { λ r. ⌜ r ≡ runningStep (stepsOf (now (self .entry))) ⌝ }
+        ensures { λ r. ⌜ r ≡ stepIn (now (self .entry) .len) (runningStep (stepsOf (now (self .entry)))) ⌝ }
     {
         for i in 0..self.len {
             let record = self.steps[i];
             if let Progress::Running { .. } = record.progress {
-                return i;
+                return Some(i);
             }
         }
-        self.len
+        None
     }
 
     // Whether a step of the vehicle runs on the station.
@@ -126,9 +132,3 @@ pub(crate) fn step_fault(steps: &[Step]) -> Option<BoardFault>
     }
     None
 }
-
-// Stations are numbered from 0 up to this one.
-const LAST_STATION: u32 = 15;
-
-// The longest step, in minutes.
-const LONGEST_STEP: u32 = 1440;

@@ -86,14 +86,12 @@ impl Board {
         if v >= self.count {
             return Err(BoardFault::VehicleUnknown);
         }
-        let len = self.vehicles[v].len;
-        if self.vehicles[v].running() < len {
+        if let Some(_) = self.vehicles[v].running() {
             return Err(BoardFault::StepRuns);
         }
-        let next = self.vehicles[v].next();
-        if next >= len {
+        let Some(next) = self.vehicles[v].next() else {
             return Err(BoardFault::NoStepLeft);
-        }
+        };
         let station = self.vehicles[v].steps[next].station;
         if self.taken(station) {
             return Err(BoardFault::StationTaken);
@@ -120,11 +118,9 @@ impl Board {
         if v >= self.count {
             return Err(BoardFault::VehicleUnknown);
         }
-        let len = self.vehicles[v].len;
-        let running = self.vehicles[v].running();
-        if running >= len {
+        let Some(running) = self.vehicles[v].running() else {
             return Err(BoardFault::NoStepRuns);
-        }
+        };
         let record = self.vehicles[v].steps[running];
         let begin = record.progress.begin();
         let least = record.least_time();

@@ -1,56 +1,38 @@
 use borrow.Author.Needs.{needs}
-use mathlib.Core.Path.{_≡_, sym, _∙_, ap, subst}
 use Prim.Native.Nat.{_<_}
 use native.Mathlib.Omega.{arith}
-use Rattle.hall.specs.Log.{marked}
-use Rattle.hall.specs.Rules.{begin, beginAnswer}
 use Rattle.hall.specs.Hall.{hallLog}
 use Rattle.hall.specs.Job.{Begins, configOf}
-use Rattle.hall.specs.Lasting.{Lasting}
-use Rattle.hall.specs.declared.step.Progress.the-variants.{Running}
+use Rattle.hall.specs.Rules.{begin, beginAnswer}
 use Rattle.hall.proofs.Answering.{accepted, refused-as, passed-on, exactly-none}
-use Rattle.hall.proofs.Begins.{MayBegin, may-begin}
-use Rattle.hall.proofs.Keeping.{lasts-begin}
+use Rattle.hall.proofs.BeginSteps.{only-begins}
 use Rattle.hall.proofs.Kept.{kept}
-use Rattle.hall.proofs.Marks.{in-table, in-eight, begin-wrote}
-use Rattle.hall.proofs.BeginSteps.{begins, only-begins}
+use Rattle.hall.proofs.Marks.{begin-fits, begin-log, begin-lasts, begin-takes}
 use Rattle.hall.proofs.board.Board.begin.Needs as need
 
 pub offset-self-vehicle : need.offset-self-vehicle
 offset-self-vehicle c =
-    let b = c .args .self .now in
-    let m = may-begin (hallLog b) (c .args .vehicle) (c .in-Continue-next .next) (c .in-Continue-next .ensures tt) in
-    let lt : c .args .vehicle < 24 = in-table b (c .args .vehicle) (c .in-Continue-next .next) (m .known) (m .left) in
+    let lt : c .args .vehicle < 24 = begin-fits (c .args .self .now) (c .args .vehicle) (c .in-Continue-next .next) (c .in-Continue-next .ensures tt) .0 in
     search needs
 
 pub index-self-vehicle : need.index-self-vehicle
-index-self-vehicle c =
-    let b = c .args .self .now in
-    let m = may-begin (hallLog b) (c .args .vehicle) (c .in-Continue-next .next) (c .in-Continue-next .ensures tt) in
-    omega (arith, in-table b (c .args .vehicle) (c .in-Continue-next .next) (m .known) (m .left))
+index-self-vehicle c = omega (arith, begin-fits (c .args .self .now) (c .args .vehicle) (c .in-Continue-next .next) (c .in-Continue-next .ensures tt) .0)
 
 pub start-requires : need.start-requires
-start-requires c κs =
-    let b = c .args .self .now in
-    let m = may-begin (hallLog b) (c .args .vehicle) (c .in-Continue-next .next) (c .in-Continue-next .ensures tt) in
-    in-eight b (c .args .vehicle) (c .in-Continue-next .next) (m .known) (m .left)
+start-requires c κs = begin-fits (c .args .self .now) (c .args .vehicle) (c .in-Continue-next .next) (c .in-Continue-next .ensures tt) .1
 
 pub cast-result : need.cast-result
-cast-result c =
-    let b = c .args .self .now in
-    let m = may-begin (hallLog b) (c .args .vehicle) (c .in-Continue-next .next) (c .in-Continue-next .ensures tt) in
-    omega (arith, in-eight b (c .args .vehicle) (c .in-Continue-next .next) (m .known) (m .left))
+cast-result c = omega (arith, begin-fits (c .args .self .now) (c .args .vehicle) (c .in-Continue-next .next) (c .in-Continue-next .ensures tt) .1)
 
 pub returns : need.returns
 returns c =
     let b = c .args .self .now in
     let v = c .args .vehicle in
     let n = c .in-Continue-next .next in
-    let m = may-begin (hallLog b) v n (c .in-Continue-next .ensures tt) in
-    let e = begin-wrote b v n (c .start .last .self) m (c .start .ensures .len, c .start .ensures .steps) in
+    let ok = c .in-Continue-next .ensures tt in
     record {
-      called = accepted b (begin v) _ n (c .in-Continue-next .ensures tt) (e ∙ ap (λ k. marked (hallLog b) v k (Running (b .minute))) (m .next));
-      step = subst (λ l. Begins (hallLog b) v n (configOf l)) (sym e) (begins (hallLog b) v n (kept b) m);
+      called = accepted b (begin v) _ n ok (begin-log b v n ok (c .start .last .self) (c .start .ensures .len, c .start .ensures .steps));
+      step = begin-takes b v n ok (c .start .last .self) (c .start .ensures .len, c .start .ensures .steps);
     }
 
 pub returns-in-Break-next : need.returns-in-Break-next
@@ -60,28 +42,28 @@ returns-in-Break-next c =
     let p = passed-on (c .from-residual .result) _ (c .from-residual .ensures .1) in
     record {
       called = refused-as b (begin v) (c .from-residual .result) _ p (c .in-Break-next .ensures tt);
-      step = exactly-none (Begins (hallLog b) v) (beginAnswer (hallLog b) v) (only-begins (hallLog b) (kept b) v) (c .from-residual .result) _ p (c .in-Break-next .ensures tt) (configOf (hallLog b));
+      step = exactly-none (Begins (hallLog b) v) (beginAnswer (hallLog b) v) (only-begins (hallLog b) (kept b) v) (c .from-residual .result) _ p
+          (c .in-Break-next .ensures tt) (configOf (hallLog b));
     }
 
 pub ghost-self : need.ghost-self
-ghost-self c =
-    let b = c .args .self .now in
-    let v = c .args .vehicle in
-    let n = c .in-Continue-next .next in
-    let m = may-begin (hallLog b) v n (c .in-Continue-next .ensures tt) in
-    let e = begin-wrote b v n (c .start .last .self) m (c .start .ensures .len, c .start .ensures .steps) in (
+ghost-self c = (
+  search needs,
+  (
+    search needs,
+    (
       search needs,
       (
         search needs,
         (
           search needs,
           (
-            search needs,
-            (
-              search needs,
-              (subst (λ l. ∥ Lasting l ∥₁) (sym e) ∣ lasts-begin (hallLog b) v n (kept b) m ∣₁, tt),
-            ),
+            begin-lasts (c .args .self .now) (c .args .vehicle) (c .in-Continue-next .next) (c .in-Continue-next .ensures tt) (c .start .last .self)
+                (c .start .ensures .len, c .start .ensures .steps),
+            tt,
           ),
         ),
       ),
-    )
+    ),
+  ),
+)

@@ -1,63 +1,45 @@
-use mathlib.Core.Path.{_≡_, refl, sym, _∙_, ap}
+use mathlib.Core.Path.{sym, _∙_, ap}
 use mathlib.Core.Bool.{true, false}
-use Prim.Native.Nat.{_≤_, _<_}
-use lib.ListN.{length, getD}
 use native.Mathlib.Omega.{arith}
-use Rattle.hall.specs.Log.{Log, vehicleAt, stepAt, blank, nextStep, runningStep, taken}
-use Rattle.hall.specs.View.{stepsOf}
-use Rattle.hall.specs.Hall.{hallLog}
-use Rattle.hall.specs.declared.board.Board.{Board}
-use Rattle.hall.proofs.Rows.{log-length, row, row-length, row-step}
 use Rattle.std.specs.declared.result.Result.the-variants.{Ok}
+use Rattle.hall.specs.Hall.{hallLog}
+use Rattle.hall.specs.Log.{nextStep, runningStep}
 use Rattle.hall.proofs.Begins.{begin-unknown, begin-runs, begin-none, begin-taken, begin-ok}
+use Rattle.hall.proofs.Rows.{log-length, row-some, row-none, row-taken}
 use Rattle.hall.proofs.board.Board.may_begin.Needs as need
 
 pub returns-then-v-self : need.returns-then-v-self
 returns-then-v-self c = begin-unknown (hallLog (c .args .self .now)) (c .args .vehicle) (omega (arith, log-length (c .args .self .now)))
 
-pub returns-then-running-len : need.returns-then-running-len
-returns-then-running-len c =
+pub returns-in-Some : need.returns-in-Some
+returns-in-Some c =
     let b = c .args .self .now in
-    let v = c .args .vehicle in
-    let e = row b v (c .if-v-self .left) in
-    begin-runs (hallLog b) v (omega (arith, log-length b))
-    (omega (arith, row-length b v (c .if-v-self .left), ap runningStep e))
+    let r = row-some b (c .args .vehicle) (c .if-v-self .left) runningStep (c .in-Some .field-0) (c .in-Some .ensures tt) in
+    begin-runs (hallLog b) (c .args .vehicle) (omega (arith, log-length b)) (omega (arith, r .0, r .1))
 
-pub returns-then-next-len : need.returns-then-next-len
-returns-then-next-len c =
+pub returns-in-rest-next : need.returns-in-rest-next
+returns-in-rest-next c =
     let b = c .args .self .now in
     let v = c .args .vehicle in
-    let e = row b v (c .if-v-self .left) in
-    begin-none (hallLog b) v (omega (arith, log-length b))
-    (omega (arith, row-length b v (c .if-v-self .left), ap runningStep e))
-    (omega (arith, row-length b v (c .if-v-self .left), ap nextStep e))
+    let lt = c .if-v-self .left in
+    begin-none (hallLog b) v (omega (arith, log-length b)) (row-none b v lt runningStep (c .in-rest .ensures tt))
+    (row-none b v lt nextStep (c .in-rest-next .ensures tt))
 
 pub returns-then-taken : need.returns-then-taken
 returns-then-taken c =
     let b = c .args .self .now in
     let v = c .args .vehicle in
     let lt = c .if-v-self .left in
-    let e = row b v lt in
-    let n : nextStep (vehicleAt (hallLog b) v) ≡ c .next-next .result = ap nextStep e ∙ sym (c .next-next .ensures) in
-    let s = row-step b v lt (c .next-next .result) (c .if-next-len .left) in
-    let t : taken (stepAt (hallLog b) v (nextStep (vehicleAt (hallLog b) v)) .station) (hallLog b .vehicles) ≡ true
-    = ap (λ k. taken (stepAt (hallLog b) v k .station) (hallLog b .vehicles)) n
-    ∙ (ap (λ r. taken (r .station) (hallLog b .vehicles)) s ∙ sym (c .if-taken .ensures tt)) in
-    begin-taken (hallLog b) v (omega (arith, log-length b))
-    (omega (arith, row-length b v lt, ap runningStep e))
-    (omega (arith, row-length b v lt, ap nextStep e)) t
+    let n = row-some b v lt nextStep (c .in-Some-next .next) (c .in-Some-next .ensures tt) in
+    begin-taken (hallLog b) v (omega (arith, log-length b)) (row-none b v lt runningStep (c .in-rest .ensures tt)) (omega (arith, n .0, n .1))
+    (row-taken b v lt (c .in-Some-next .next) true (n .0) (n .1) (c .if-taken .ensures tt))
 
 pub returns : need.returns
 returns c =
     let b = c .args .self .now in
     let v = c .args .vehicle in
     let lt = c .if-v-self .left in
-    let e = row b v lt in
-    let n : nextStep (vehicleAt (hallLog b) v) ≡ c .next-next .result = ap nextStep e ∙ sym (c .next-next .ensures) in
-    let s = row-step b v lt (c .next-next .result) (c .if-next-len .left) in
-    let t : taken (stepAt (hallLog b) v (nextStep (vehicleAt (hallLog b) v)) .station) (hallLog b .vehicles) ≡ false
-    = ap (λ k. taken (stepAt (hallLog b) v k .station) (hallLog b .vehicles)) n
-    ∙ (ap (λ r. taken (r .station) (hallLog b .vehicles)) s ∙ sym (c .if-taken .ensures tt)) in
-    ap Ok (sym n) ∙ begin-ok (hallLog b) v (omega (arith, log-length b))
-    (omega (arith, row-length b v lt, ap runningStep e))
-    (omega (arith, row-length b v lt, ap nextStep e)) t
+    let n = row-some b v lt nextStep (c .in-Some-next .next) (c .in-Some-next .ensures tt) in
+    ap Ok (sym (n .0))
+    ∙ begin-ok (hallLog b) v (omega (arith, log-length b)) (row-none b v lt runningStep (c .in-rest .ensures tt)) (omega (arith, n .0, n .1))
+    (row-taken b v lt (c .in-Some-next .next) false (n .0) (n .1) (c .if-taken .ensures tt))

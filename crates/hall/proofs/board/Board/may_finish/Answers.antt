@@ -1,53 +1,49 @@
-use mathlib.Core.Path.{_≡_, refl, sym, _∙_, ap}
-use Rattle.hall.proofs.Kept.{kept}
-use Prim.Native.Nat.{_≤_, _<_, _+_}
-use lib.ListN.{length, getD}
+use mathlib.Core.Path.{sym, ap}
 use native.Mathlib.Omega.{arith}
-use Rattle.hall.specs.Log.{Log, vehicleAt, stepAt, blank, runningStep, beginOf}
 use Rattle.hall.specs.Hall.{hallLog}
-use Rattle.hall.proofs.Rows.{log-length, row, row-length, row-step}
+use Rattle.hall.specs.Log.{beginOf, runningStep}
 use Rattle.hall.proofs.Finishes.{finish-unknown, finish-none, finish-early, finish-ok}
+use Rattle.hall.proofs.Kept.{kept}
+use Rattle.hall.proofs.Rows.{log-length, row-length, row-step, row-some, row-none}
 use Rattle.hall.proofs.board.Board.may_finish.Needs as need
 
 pub returns-then-v-self : need.returns-then-v-self
 returns-then-v-self c = finish-unknown (hallLog (c .args .self .now)) (c .args .vehicle) (omega (arith, log-length (c .args .self .now)))
 
-pub returns-then-running-len : need.returns-then-running-len
-returns-then-running-len c =
+pub returns-in-rest : need.returns-in-rest
+returns-in-rest c =
     let b = c .args .self .now in
-    let v = c .args .vehicle in
-    let lt = c .if-v-self .left in
-    finish-none (hallLog b) v (omega (arith, log-length b)) (omega (arith, row-length b v lt, ap runningStep (row b v lt)))
+    finish-none (hallLog b) (c .args .vehicle) (omega (arith, log-length b))
+    (row-none b (c .args .vehicle) (c .if-v-self .left) runningStep (c .in-rest .ensures tt))
 
 pub sub-self : need.sub-self
 sub-self c =
     let b = c .args .self .now in
     let v = c .args .vehicle in
     let lt = c .if-v-self .left in
-    let n = c .running-running .result in
-    let past : beginOf (stepAt (hallLog b) v n .progress) ≤ b .minute = kept b .begins v n in
-    omega (arith, past, ap (λ r. beginOf (r .progress)) (row-step b v lt n (c .if-running-len .left)))
+    let n = c .in-Some .running in
+    let s = row-some b v lt runningStep n (c .in-Some .ensures tt) in
+    let in-row = row-step b v lt n (omega (arith, s .1, row-length b v lt)) in
+    omega (arith, kept b .begins v n, ap (λ r. beginOf (r .progress)) in-row)
 
 pub returns-then-self-begin : need.returns-then-self-begin
 returns-then-self-begin c =
     let b = c .args .self .now in
     let v = c .args .vehicle in
     let lt = c .if-v-self .left in
-    let n = c .running-running .result in
-    let s = row-step b v lt n (c .if-running-len .left) in
-    let past : beginOf (stepAt (hallLog b) v n .progress) ≤ b .minute = kept b .begins v n in
-    finish-early (hallLog b) v n (c .running-running .ensures ∙ ap runningStep (sym (row b v lt))) (omega (arith, log-length b))
-    (omega (arith, row-length b v lt))
-    (omega (arith, past, ap (λ r. beginOf (r .progress)) s, ap (λ r. r .length) s))
+    let n = c .in-Some .running in
+    let s = row-some b v lt runningStep n (c .in-Some .ensures tt) in
+    let in-row = row-step b v lt n (omega (arith, s .1, row-length b v lt)) in
+    finish-early (hallLog b) v n (sym (s .0)) (omega (arith, log-length b)) (s .1)
+    (omega (arith, kept b .begins v n, ap (λ r. beginOf (r .progress)) in-row, ap (λ r. r .length) in-row))
 
 pub returns : need.returns
 returns c =
     let b = c .args .self .now in
     let v = c .args .vehicle in
     let lt = c .if-v-self .left in
-    let n = c .running-running .result in
-    let s = row-step b v lt n (c .if-running-len .left) in
-    let past : beginOf (stepAt (hallLog b) v n .progress) ≤ b .minute = kept b .begins v n in
-    finish-ok (hallLog b) v n (c .running-running .ensures ∙ ap runningStep (sym (row b v lt))) (omega (arith, log-length b))
-    (omega (arith, row-length b v lt))
-    (omega (arith, past, ap (λ r. beginOf (r .progress)) s, ap (λ r. r .length) s))
+    let n = c .in-Some .running in
+    let s = row-some b v lt runningStep n (c .in-Some .ensures tt) in
+    let in-row = row-step b v lt n (omega (arith, s .1, row-length b v lt)) in
+    finish-ok (hallLog b) v n (sym (s .0)) (omega (arith, log-length b)) (s .1)
+    (omega (arith, kept b .begins v n, ap (λ r. beginOf (r .progress)) in-row, ap (λ r. r .length) in-row))
