@@ -1,26 +1,24 @@
 -- Begin is accepted exactly where the composition has that step.
 use mathlib.Core.Path.{_≡_, refl, sym, _∙_, ap, subst}
-use mathlib.Core.Logic.{_⊎_, inl, inr, ⊎-elim}
-use mathlib.Core.Bool.{Bool, true, false, not, _&&_, _||_}
+use mathlib.Core.Logic.{_⊎_, inl, ⊎-elim}
+use mathlib.Core.Bool.{true, false, not, _&&_}
 use mathlib.Core.List.{List, [], _∷_}
-use Prim.Native.Nat.{ℕ, suc, _-_, _<_, _≤_}
+use Prim.Native.Nat.{ℕ, suc, _<_}
 use native.Mathlib.Omega.{arith}
 use lib.Dec.{eqb, ltb}
 use lib.ListN.{length, getD, set}
 use Rattle.std.proofs.shelf.Lists.{getD-past, length-map}
 use Rattle.std.proofs.shelf.Tests.{cases-lt, cases-eq, cases-bool, cond-true, and-parts, or-from, both-ways, eqb-true, lt-ltb}
-use Rattle.std.specs.declared.option.Option.the-variants.{Some, None}
-use Rattle.std.specs.declared.result.Result.{Result}
-use Rattle.std.specs.declared.result.Result.the-variants.{Ok, Err}
-use Rattle.hall.specs.declared.fault.BoardFault.{BoardFault}
+use Rattle.std.specs.declared.option.Option.the-variants.{Some}
+use Rattle.std.specs.declared.result.Result.the-variants.{Ok}
 use Rattle.hall.specs.declared.step.Progress.the-variants.{Running}
 use Rattle.hall.specs.declared.step.StepRecord.{StepRecord}
-use Rattle.hall.specs.Job.{Place, waits, runs, final, stepOf, beginning, station, Config, bookingOf, jobsOf, placeOf, clockOf, configOf, Begins}
+use Rattle.hall.specs.Job.{Place, waits, runs, beginning, station, Config, bookingOf, jobsOf, placeOf, clockOf, configOf, Begins}
 use Rattle.hall.specs.Lasting.{Lasting}
-use Rattle.hall.specs.Log.{Log, vehicleAt, stepAt, blank, reached, marked, begun, idle, running, taken, occupies, beginOf, runningStep, nextStep}
+use Rattle.hall.specs.Log.{Log, vehicleAt, stepAt, blank, reached, marked, begun, idle, running, taken, occupies, beginOf}
 use Rattle.hall.specs.Rules.{beginAnswer}
 use Rattle.hall.proofs.Begins.{MayBegin, begin-ok}
-use Rattle.hall.proofs.Configurations.{booked-step, moves, moved-to, ByVehicle, by-vehicle}
+use Rattle.hall.proofs.Configurations.{booked-step, moves, moved-to, by-vehicle}
 use Rattle.hall.proofs.Keeping.{lasts-begin, begin-waits, begin-before, begin-after}
 use Rattle.hall.proofs.Leading.{leading-all}
 use Rattle.hall.proofs.Stages.{Between, Within, begun-within, between-place, within-place, within-last, place-waits, running-within}

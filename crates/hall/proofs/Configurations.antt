@@ -1,24 +1,23 @@
 -- The configuration of a log in which one step changes.
 use mathlib.Core.Path.{_≡_, refl, sym, _∙_, ap, subst, fun-ext}
-use mathlib.Core.Logic.{_⊎_, inl, inr, ⊎-elim}
-use mathlib.Core.Bool.{Bool, true, false, not, cond}
-use mathlib.Core.List.{List, [], _∷_, map}
-use Prim.Native.Nat.{ℕ, zero, suc, _+_, _-_, _<_, _≤_}
+use mathlib.Core.Logic.{_⊎_, ⊎-elim}
+use mathlib.Core.Bool.{true, false, cond}
+use mathlib.Core.List.{List, map}
+use Prim.Native.Nat.{ℕ, _<_}
 use native.Mathlib.Omega.{arith}
 use lib.Dec.{eqb}
 use lib.ListN.{length, getD, set}
 use Rattle.std.proofs.shelf.Lists.{getD-past, getD-map, length-map, map-set, set-getD}
-use Rattle.std.proofs.shelf.Tests.{cases-lt, cases-eq, cond-true, cond-false, eq-eqb, ne-eqb, both-ways}
-use Rattle.std.specs.declared.option.Option.{Option}
-use Rattle.std.specs.declared.option.Option.the-variants.{Some, None}
+use Rattle.std.proofs.shelf.Tests.{cases-lt, cases-eq, cond-true, cond-false, eq-eqb, ne-eqb}
+use Rattle.std.specs.declared.option.Option.the-variants.{Some}
 use Rattle.hall.specs.declared.step.Progress.{Progress}
 use Rattle.hall.specs.declared.step.Step.{Step}
 use Rattle.hall.specs.declared.step.StepRecord.{StepRecord}
-use Rattle.hall.specs.Automaton.{Transition, Discrete, reset}
-use Rattle.hall.specs.Composition.{put, Free, alone, Composed}
+use Rattle.hall.specs.Automaton.{Transition, Discrete}
+use Rattle.hall.specs.Composition.{put, Free, alone}
 use Rattle.hall.specs.Job.{Place, waits, runs, final, JobHas, stepOf, station, hallAutomaton, Config, bookingOf, jobsOf, placeOf, clockOf, configOf}
 use Rattle.hall.specs.Lasting.{Lasting}
-use Rattle.hall.specs.Log.{Log, vehicleAt, stepAt, blank, reached, marked, idle, running, runningStep}
+use Rattle.hall.specs.Log.{Log, vehicleAt, stepAt, blank, reached, marked, idle, running}
 use Rattle.hall.proofs.Keeping.{idle-running}
 use Rattle.hall.proofs.Leading.{leading-at}
 use Rattle.hall.proofs.Spots.{row-of, other-row}

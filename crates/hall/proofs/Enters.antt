@@ -1,7 +1,7 @@
 -- What enter answers and writes.
-use mathlib.Core.Path.{_≡_, refl, sym, _∙_, ap, subst}
+use mathlib.Core.Path.{_≡_, sym, _∙_, ap, subst}
 use mathlib.Core.Logic.{_⊎_, inl, inr, ⊎-elim}
-use mathlib.Core.Bool.{Bool, true, false, cond}
+use mathlib.Core.Bool.{true, false}
 use mathlib.Core.List.{List, [], _∷_, _++_, map}
 use Prim.Native.Nat.{ℕ, _+_, _<_, _≤_}
 use native.Mathlib.Omega.{arith}
@@ -11,7 +11,7 @@ use Rattle.std.proofs.shelf.Lists.{at-drop-more, at-drop-all, take-more-set, ma
 use Rattle.std.proofs.shelf.Tests.{lt-leb, le-leb, lt-ltb, le-ltb, cases-eq}
 use Rattle.std.specs.declared.option.Option.{Option}
 use Rattle.std.specs.declared.option.Option.the-variants.{Some, None}
-use Rattle.std.specs.declared.result.Result.the-variants.{Ok, Err}
+use Rattle.std.specs.declared.result.Result.the-variants.{Err}
 use Rattle.hall.specs.declared.fault.BoardFault.{BoardFault}
 use Rattle.hall.specs.declared.fault.BoardFault.the-variants.{BoardFull, StepCount, StationUnknown, LengthOutside}
 use Rattle.hall.specs.declared.step.Step.{Step}

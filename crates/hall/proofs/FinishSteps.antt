@@ -1,24 +1,24 @@
 -- Finish is accepted exactly where the composition has that step.
-use mathlib.Core.Path.{_≡_, refl, sym, _∙_, ap, subst}
-use mathlib.Core.Logic.{_⊎_, inl, inr, ⊎-elim}
+use mathlib.Core.Path.{_≡_, refl, sym, _∙_, ap}
+use mathlib.Core.Logic.{_⊎_, inr, ⊎-elim}
 use mathlib.Core.Bool.{Bool, true, false, cond}
 use mathlib.Core.List.{List}
-use Prim.Native.Nat.{ℕ, _+_, _-_, _<_, _≤_}
+use Prim.Native.Nat.{ℕ, _+_, _-_, _≤_}
 use native.Mathlib.Omega.{arith}
 use lib.Dec.{leb, ltb}
-use lib.ListN.{length, getD, set}
+use lib.ListN.{length, set}
 use Rattle.std.proofs.shelf.Lists.{length-map}
 use Rattle.std.proofs.shelf.Tests.{le-leb, leb-true}
 use Rattle.std.specs.declared.result.Result.the-variants.{Ok}
 use Rattle.hall.specs.declared.step.Progress.the-variants.{Done}
 use Rattle.hall.specs.declared.step.Step.{Step}
 use Rattle.hall.specs.Automaton.{Transition}
-use Rattle.hall.specs.Job.{Place, waits, runs, final, before, stepOf, beginning, finishing, JobHas, Config, bookingOf, jobsOf, placeOf, clockOf, configOf, Finishes}
+use Rattle.hall.specs.Job.{Place, waits, runs, final, before, stepOf, finishing, JobHas, Config, bookingOf, jobsOf, placeOf, clockOf, configOf, Finishes}
 use Rattle.hall.specs.Lasting.{Lasting}
-use Rattle.hall.specs.Log.{Log, vehicleAt, stepAt, blank, reached, marked, beginOf, leastTime, runningStep}
+use Rattle.hall.specs.Log.{Log, vehicleAt, stepAt, reached, marked, beginOf, leastTime}
 use Rattle.hall.specs.Rules.{finishAnswer}
 use Rattle.hall.proofs.BeginSteps.{known-by-steps}
-use Rattle.hall.proofs.Configurations.{booked-step, place-running, moves, moved-to, ByVehicle, by-vehicle}
+use Rattle.hall.proofs.Configurations.{booked-step, place-running, moves, moved-to, by-vehicle}
 use Rattle.hall.proofs.Finishes.{MayFinish, finish-ok}
 use Rattle.hall.proofs.Keeping.{lasts-finish, finish-runs}
 use Rattle.hall.proofs.Stages.{Between, Within, finished-between, between-place, between-last, within-place, within-last, place-runs, running-within, written-here, written-length}

@@ -1,5 +1,5 @@
 -- Steps of a search over the first n elements of an array.
-use mathlib.Core.Path.{_≡_, refl, sym, _∙_, ap}
+use mathlib.Core.Path.{_≡_, refl, sym, _∙_}
 use mathlib.Core.Bool.{Bool, true, false, _&&_, _||_}
 use lib.Dec.{eqb}
 use Rattle.hall.specs.Log.{waiting, running, occupies, blank}

@@ -1,11 +1,10 @@
 -- The laws over series of calls.
 use mathlib.Core.Path.{_≡_, refl, sym, _∙_, ap, subst, fun-ext}
 use mathlib.Core.Logic.{_⊎_, inl, inr, ⊎-elim}
-use mathlib.Core.Bool.{Bool, true, false, not}
-use mathlib.Core.List.{List, [], _∷_, _++_, map}
-use Prim.Native.Nat.{ℕ, zero, suc, _+_, _-_, _<_, _≤_}
+use mathlib.Core.Bool.{not}
+use mathlib.Core.List.{List, [], _∷_, map}
+use Prim.Native.Nat.{ℕ}
 use native.Mathlib.Omega.{arith}
-use lib.ListN.{length, getD}
 use Rattle.std.proofs.shelf.Lists.{length-map}
 use Rattle.std.specs.shelf.Lists.{All}
 use Rattle.std.specs.declared.result.Result.{Result}
@@ -14,13 +13,12 @@ use Rattle.hall.specs.declared.board.Board.{Board}
 use Rattle.hall.specs.declared.fault.BoardFault.{BoardFault}
 use Rattle.hall.specs.declared.step.Progress.the-variants.{Waiting, Running, Done}
 use Rattle.hall.specs.declared.step.Step.{Step}
-use Rattle.hall.specs.declared.step.StepRecord.{StepRecord}
 use Rattle.hall.specs.Automaton.{Discrete, starting, Run}
 use Rattle.hall.specs.Automaton as automaton
 use Rattle.hall.specs.Hall.{hallLog, Called}
-use Rattle.hall.specs.Job.{Place, Config, before, hallAutomaton, bookingOf, jobsOf, placeOf, configOf}
-use Rattle.hall.specs.Log.{Log, emptyLog, vehicleAt, stepAt, blank, marked, begun, waiting, beginOf}
-use Rattle.hall.specs.Rules.{Call, enter, begin, finish, pass, answerTo, written, after, logAfter, logAfterAll, enterLog, passLog}
+use Rattle.hall.specs.Job.{Place, Config, before, hallAutomaton, bookingOf, jobsOf, configOf}
+use Rattle.hall.specs.Log.{Log, emptyLog, vehicleAt, stepAt, marked, waiting, beginOf}
+use Rattle.hall.specs.Rules.{Call, enter, begin, finish, pass, answerTo, written, after, logAfterAll, enterLog, passLog}
 use Rattle.hall.specs.Series.{Made, Led, left, Kept-from-arguments, Accepted, Enters, Works, minutesOf, runStep, RunFrom, Runs-as-composed}
 use Rattle.hall.proofs.BeginSteps.{begins}
 use Rattle.hall.proofs.Begins.{may-begin}
@@ -28,9 +26,9 @@ use Rattle.hall.proofs.Configurations.{same-jobs}
 use Rattle.hall.proofs.FinishSteps.{finishes}
 use Rattle.hall.proofs.Finishes.{may-finish}
 use Rattle.hall.proofs.Kept.{kept}
-use Rattle.hall.proofs.KeptByEnter.{Quiet, quiet-enter}
+use Rattle.hall.proofs.KeptByEnter.{quiet-enter}
 use Rattle.hall.proofs.PassSteps.{passes}
-use Rattle.hall.proofs.Stages.{Between, between-place}
+use Rattle.hall.proofs.Stages.{between-place}
 
 -- each call leaves the log that its arguments make
 pub kept-from-arguments : (b : Board) → Kept-from-arguments b

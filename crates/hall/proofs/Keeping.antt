@@ -1,12 +1,12 @@
 -- Begin, finish and pass keep what every board keeps, and an empty board has it.
-use mathlib.Core.Path.{_≡_, refl, sym, _∙_, ap, subst}
-use mathlib.Core.Logic.{_⊎_, inl, inr, ⊎-elim}
-use mathlib.Core.Bool.{Bool, true, false, not, _&&_, _||_, cond}
+use mathlib.Core.Path.{_≡_, refl, sym, ap, subst}
+use mathlib.Core.Logic.{_⊎_, ⊎-elim}
+use mathlib.Core.Bool.{Bool, true, false, not, _&&_}
 use mathlib.Core.List.{List, [], _∷_}
 use Prim.Native.Nat.{ℕ, zero, suc, _+_, _<_, _≤_}
 use native.Mathlib.Omega.{arith}
 use lib.Dec.{eqb, leb}
-use lib.ListN.{length, getD, set}
+use lib.ListN.{length, getD}
 use Rattle.std.proofs.shelf.Tests.{cases-bool, and-parts, and-from, or-cases, or-parts, or-right, or-left, both-ways, eq-eqb, le-leb}
 use Rattle.hall.specs.Log.{Log, vehicleAt, stepAt, blank, reached, marked, begun, idle, finished, running, waiting, done, beginOf, endOf, leastTime, occupies, taken, emptyLog}
 use Rattle.hall.specs.Rules.{passLog}

@@ -1,10 +1,8 @@
 -- The invariant has at most one proof, so a board gives it.
-use mathlib.Core.Path.{_≡_, refl}
 use mathlib.Core.Logic.{∥∥₁-elim}
 use mathlib.Core.HLevel.{Π-prop}
 use mathlib.Core.Bool.{Bool-set}
 use native.Mathlib.Bridge.{le-prop}
-use Prim.Native.Nat.{ℕ}
 use Rattle.hall.specs.Log.{Log}
 use Rattle.hall.specs.Lasting.{Lasting}
 use Rattle.hall.specs.Hall.{hallLog}

@@ -5,7 +5,6 @@ use mathlib.Core.Bool.{Bool, true, false, not, cond}
 use mathlib.Core.List.{List, [], _∷_, _++_, map}
 use Prim.Native.Nat.{ℕ, zero, suc, _+_, _<_, _≤_}
 use native.Mathlib.Omega.{arith}
-use lib.Dec.{ltb}
 use lib.ListN.{length, getD}
 use Rattle.std.proofs.shelf.Lists.{getD-past, length-push, length-map}
 use Rattle.std.proofs.shelf.Tests.{both-ways, cases-lt, ltb-false}
@@ -15,7 +14,7 @@ use Rattle.hall.specs.declared.fault.BoardFault.{BoardFault}
 use Rattle.hall.specs.declared.step.Progress.the-variants.{Waiting}
 use Rattle.hall.specs.declared.step.Step.{Step}
 use Rattle.hall.specs.declared.step.StepRecord.{StepRecord}
-use Rattle.hall.specs.Log.{Log, vehicleAt, stepAt, blank, waiting, running, done, begun, finished, beginOf, endOf, leastTime}
+use Rattle.hall.specs.Log.{Log, stepAt, blank, waiting, running, begun, finished, beginOf, endOf, leastTime}
 use Rattle.hall.specs.Rules.{stepFault, enterLog, booked}
 use Rattle.hall.specs.Lasting.{Lasting, clear}
 use Rattle.hall.proofs.Keeping.{running-begun, done-begun}

@@ -1,5 +1,5 @@
 -- The longest front of a list that passes a test.
-use mathlib.Core.Path.{_≡_, refl, sym, _∙_, ap}
+use mathlib.Core.Path.{_≡_, refl, _∙_, ap}
 use mathlib.Core.Logic.{⊎-elim}
 use mathlib.Core.Bool.{Bool, true, false, cond}
 use mathlib.Core.List.{List, [], _∷_}
@@ -9,7 +9,7 @@ use native.Mathlib.Numerals.{one-add}
 use lib.ListN.{length, getD}
 use Rattle.std.specs.shelf.Lists.{leading}
 use Rattle.std.proofs.shelf.Lists.{getD-past}
-use Rattle.std.proofs.shelf.Tests.{cases-lt, cases-order, both-ways}
+use Rattle.std.proofs.shelf.Tests.{cases-lt}
 
 below-step : {X : Type 0} (p : X → Bool) (x : X) (xs : List X) (L : ℕ) (d : X) (b : Bool) (i : ℕ) → p x ≡ b → i < cond b (1 + L) 0
     → ((k : ℕ) → k < L → p (getD xs k d) ≡ true) → p (getD (x ∷ xs) i d) ≡ true

@@ -1,12 +1,12 @@
 -- Pass is accepted exactly where the composition has that time step, within its limits.
-use mathlib.Core.Path.{_≡_, refl, sym, _∙_, ap, fun-ext}
-use mathlib.Core.Bool.{Bool, true, false}
-use Prim.Native.Nat.{ℕ, _+_, _-_, _<_, _≤_}
+use mathlib.Core.Path.{_≡_, refl, fun-ext}
+use mathlib.Core.Bool.{false}
+use Prim.Native.Nat.{ℕ, _+_, _-_, _≤_}
 use native.Mathlib.Omega.{arith}
 use lib.Dec.{ltb}
 use Rattle.std.proofs.shelf.Tests.{le-ltb, ltb-false}
 use Rattle.std.specs.declared.result.Result.the-variants.{Ok}
-use Rattle.hall.specs.Job.{Config, configOf, clockOf, lastBegin, Passes}
+use Rattle.hall.specs.Job.{configOf, lastBegin, Passes}
 use Rattle.hall.specs.Lasting.{Lasting}
 use Rattle.hall.specs.Log.{Log, vehicleAt, nextStep}
 use Rattle.hall.specs.Rules.{passAnswer, passLog}
@@ -18,9 +18,6 @@ pass-ok l m some most day =
     let b : ltb 1440 m ≡ false = le-ltb _ _ most in
     let c : ltb 1000000 (l .minute + m) ≡ false = le-ltb _ _ day in
     simp (a, b, c)
-
-pub only-passes : (l : Log) (m n : ℕ) (z : Config) → Passes l m n z → Ok n ≡ passAnswer l m
-only-passes l m n z p = ap Ok (p .ends) ∙ pass-ok l m (p .some) (p .most) (omega (arith, p .ends, p .day))
 
 -- every clock goes on by the minutes that pass
 pub passes : (l : Log) → Lasting l → (m n : ℕ) → Ok n ≡ passAnswer l m → Passes l m n (configOf (passLog l m))

@@ -1,5 +1,5 @@
 -- One row of a board's table, as the log has it.
-use mathlib.Core.Path.{_≡_, refl, sym, _∙_, ap}
+use mathlib.Core.Path.{_≡_, sym, _∙_, ap}
 use mathlib.Core.Bool.{Bool}
 use mathlib.Core.List.{List, [], map}
 use Prim.Native.Nat.{ℕ, _<_, _≤_}
@@ -27,9 +27,6 @@ pub log-length : (b : Board) → length (hallLog b .vehicles) ≡ b .count
 log-length b = length-lists (b .count) (b .vehicles) (in-table b)
 
 module _ (b : Board) (v : ℕ) (lt : v < b .count) where
-  abbrev pub record-at : Vehicle
-  record-at = getD (b .vehicles) v bare
-
   pub row : vehicleAt (hallLog b) v ≡ stepsOf (getD (b .vehicles) v bare)
   row = lists-at (b .count) (b .vehicles) v bare [] (in-table b) lt
 

@@ -1,8 +1,8 @@
 -- A vehicle is between two steps, or runs one: what then is its next step, its place and its clock.
-use mathlib.Core.Path.{_≡_, refl, sym, _∙_, ap, subst}
-use mathlib.Core.Logic.{_⊎_, inl, inr, ⊎-elim}
+use mathlib.Core.Path.{_≡_, refl, sym, _∙_, ap}
+use mathlib.Core.Logic.{_⊎_, ⊎-elim}
 use mathlib.Core.Bool.{Bool, true, false, not, cond}
-use mathlib.Core.List.{List, [], _∷_}
+use mathlib.Core.List.{List}
 use Prim.Native.Nat.{ℕ, _+_, _-_, _<_, _≤_}
 use native.Mathlib.Omega.{arith}
 use lib.Dec.{ltb}
@@ -14,8 +14,8 @@ use Rattle.std.proofs.shelf.Tests.{cases-lt, cases-order, cases-eq, cases-bool,
 use Rattle.hall.specs.declared.step.Progress.{Progress}
 use Rattle.hall.specs.declared.step.Progress.the-variants.{Waiting, Running, Done}
 use Rattle.hall.specs.declared.step.StepRecord.{StepRecord}
-use Rattle.hall.specs.Job.{Place, waits, runs, final, before, placeOf, lastBegin}
-use Rattle.hall.specs.Log.{Log, vehicleAt, stepAt, blank, reached, begun, idle, finished, running, waiting, done, beginOf, nextStep, runningStep}
+use Rattle.hall.specs.Job.{waits, runs, final, before, placeOf, lastBegin}
+use Rattle.hall.specs.Log.{Log, vehicleAt, stepAt, blank, reached, begun, idle, finished, running, waiting, beginOf, nextStep, runningStep}
 use Rattle.hall.specs.Lasting.{Lasting}
 use Rattle.hall.proofs.Leading.{leading-below, leading-at}
 use Rattle.hall.proofs.Keeping.{done-begun, done-idle, running-begun}
@@ -116,9 +116,6 @@ place-waits rs i h =
 
 -- one step is written
 module _ (rs : List StepRecord) (n : ℕ) (p : Progress) (lt : n < length rs) where
-  abbrev pub row′ : List StepRecord
-  row′ = set rs n (reached (getD rs n blank) p)
-
   pub written-here : getD (set rs n (reached (getD rs n blank) p)) n blank ≡ reached (getD rs n blank) p
   written-here = getD-set-same rs n (reached (getD rs n blank) p) blank lt
 

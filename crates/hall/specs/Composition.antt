@@ -1,6 +1,6 @@
 -- The mutual exclusion composition of timed automata that share stations.
 use mathlib.Core.Path.{_≡_}
-use mathlib.Core.Bool.{Bool, false, cond}
+use mathlib.Core.Bool.{false, cond}
 use Prim.Native.Nat.{ℕ}
 use lib.Dec.{eqb}
 use Rattle.std.specs.declared.option.Option.{Option}

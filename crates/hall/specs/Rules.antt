@@ -1,5 +1,5 @@
 -- The rules of the four calls, by the hall log alone: what each call answers, and what it writes into the log.
-use mathlib.Core.Bool.{Bool, cond}
+use mathlib.Core.Bool.{cond}
 use mathlib.Core.List.{List, [], _∷_, _++_, map}
 use Prim.Native.Nat.{ℕ, _+_}
 use lib.Dec.{leb, ltb}
@@ -8,7 +8,7 @@ use Rattle.std.specs.declared.option.Option.{Option}
 use Rattle.std.specs.declared.option.Option.the-variants.{Some, None}
 use Rattle.std.specs.declared.result.Result.{Result}
 use Rattle.std.specs.declared.result.Result.the-variants.{Ok, Err}
-use Rattle.hall.specs.Log.{Log, emptyLog, vehicleAt, stepAt, marked, nextStep, runningStep, taken, beginOf, leastTime}
+use Rattle.hall.specs.Log.{Log, vehicleAt, stepAt, marked, nextStep, runningStep, taken, beginOf, leastTime}
 use Rattle.hall.specs.declared.fault.BoardFault.{BoardFault}
 use Rattle.hall.specs.declared.fault.BoardFault.the-variants.{VehicleUnknown, StepRuns, NoStepLeft, StationTaken, NoStepRuns, TooEarly, MinutesOutside, BeyondLastMinute, BoardFull, StepCount, StationUnknown, LengthOutside}
 use Rattle.hall.specs.declared.step.Progress.the-variants.{Waiting, Running, Done}

@@ -6,8 +6,6 @@ use native.Mathlib.Omega.{arith}
 use lib.ListN.{length, drop, getD}
 use Rattle.std.proofs.shelf.Results.{err-from-errBy}
 use Rattle.std.specs.Results.{ErrBy}
-use Rattle.std.specs.declared.alloc.AllocError.{AllocError}
-use Rattle.std.specs.declared.option.Option.{Option}
 use Rattle.std.specs.declared.option.Option.the-variants.{Some, None}
 use Rattle.std.specs.declared.result.Result.{Result}
 use Rattle.std.specs.declared.result.Result.the-variants.{Ok, Err}
@@ -19,7 +17,7 @@ use Rattle.sheet.specs.Line.{lineAnswer, lineLog}
 use Rattle.sheet.specs.Run.{openedOf, entryOf, nextOf, logNext, numberNext}
 use Rattle.sheet.specs.Texts.{entryText, faultText}
 use Rattle.replay.specs.declared.replaying.Stop.{Stop}
-use Rattle.replay.specs.declared.replaying.Stop.the-variants.{Memory, Fault}
+use Rattle.replay.specs.declared.replaying.Stop.the-variants.{Fault}
 use Rattle.replay.specs.Replay.{shownBefore, linesText, openedText, replayText, Ran}
 
 no-entry : (k b : ℕ) (r : Result ℕ LineFault) → Ok None ≡ entryOf k b r → ⊥
@@ -37,11 +35,6 @@ module _ (k : ℕ) (log : Log) where
   pub shows-none : (ls : List (List ℕ)) → Ok None ≡ nextOf k ls log → linesText k ls log ≡ []
   shows-none [] h = refl
   shows-none (l ∷ ls) h = absurd (no-entry k (getD l 0 0) (lineAnswer log l) h)
-
-  -- a refused line shows its fault
-  pub shows-fault : (ls : List (List ℕ)) (f : SheetFault) → Err f ≡ nextOf k ls log → linesText k ls log ≡ faultText f
-  shows-fault [] f h = absurd (let z : _≡_ {A = ℕ} 0 1 = cc in omega arith)
-  shows-fault (l ∷ ls) f h = ap (λ r. shownBefore r (linesText (k + 1) ls (lineLog log l))) (sym h)
 
 -- the text of a sheet that is opened, and of one that is not
 pub opens : (bs : List ℕ) (ls : List (List ℕ)) (k : ℕ) (log : Log) → Ok (ls, k) ≡ openedOf bs → log ≡ emptyLog → linesText k ls log ≡ replayText bs
@@ -67,8 +60,3 @@ module _ (old new bs : List ℕ) (r : Result (Unit {0}) Stop) where
   stopped-by-fault f h e =
       let p = err-from-errBy r h in
       subst (Ran old new bs) (sym (p .1 ∙ ap Err (p .2))) e
-
-  pub stopped-by-memory : (a : AllocError) → ErrBy r (λ s. s ≡ Memory a) → Ran old new bs r
-  stopped-by-memory a h =
-      let p = err-from-errBy r h in
-      subst (Ran old new bs) (sym (p .1 ∙ ap Err (p .2))) tt

@@ -2,5 +2,4 @@ pub mod Fields
 pub mod Readings
 pub mod Running
 pub mod Printing
-pub mod Outcomes
 pub mod Offsets

@@ -1,6 +1,4 @@
-use borrow.Author.Needs.{needs}
 use mathlib.Core.Logic.{inl, inr, ⊎-elim}
-use native.Mathlib.Omega.{arith}
 use Rattle.hall.proofs.Enters.{fault-station, fault-length, fault-none, fault-all}
 use Rattle.hall.proofs.vehicle.step_fault.Needs as need
 

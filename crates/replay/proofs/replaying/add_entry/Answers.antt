@@ -1,9 +1,6 @@
 use borrow.Author.Needs.{needs}
-use mathlib.Core.Path.{_≡_}
 use native.Mathlib.Omega.{arith}
 use Prim.Native.Nat.{_≤_}
-use lib.ListN.{length}
-use Rattle.sheet.specs.Texts.{entryText}
 use Rattle.replay.proofs.Adding.{counted, not-refused, front, added}
 use Rattle.replay.proofs.replaying.add_entry.Needs as need
 

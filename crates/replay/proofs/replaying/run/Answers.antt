@@ -1,14 +1,10 @@
-use borrow.Author.Needs.{needs}
-use mathlib.Core.Path.{_≡_, refl, sym, ap, _∙_}
+use mathlib.Core.Path.{sym, ap, _∙_}
 use mathlib.Core.List.{_++_, append-nil}
-use native.Mathlib.Omega.{arith}
-use lib.ListN.{length}
-use Rattle.std.proofs.shelf.Lists.{length-drop}
 use Rattle.std.specs.Of.Vec.{vec-items}
 use Rattle.std.specs.declared.result.Result.the-variants.{Ok}
 use Rattle.hall.specs.Hall.{hallLog}
 use Rattle.sheet.specs.Run.{left, number}
-use Rattle.replay.proofs.Showing.{opens, stays-shut, shows-entry, shows-none, shows-fault, shows-more, stopped-by-fault, stopped-by-memory}
+use Rattle.replay.proofs.Showing.{opens, stays-shut, shows-none, shows-more, stopped-by-fault}
 use Rattle.replay.proofs.replaying.run.Needs as need
 
 pub loop-entry-holds : need.loop-entry-holds

@@ -1,7 +1,5 @@
-use borrow.Author.Needs.{needs}
 use mathlib.Core.Path.{_≡_, refl, sym, _∙_, ap}
 use native.Mathlib.Omega.{arith}
-use Prim.Native.Nat.{_≤_}
 use lib.ListN.{length, take}
 use Rattle.hall.proofs.Enters.{booked-more}
 use Rattle.std.proofs.shelf.Lists.{take-all, length-set}

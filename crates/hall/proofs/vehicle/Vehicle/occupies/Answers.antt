@@ -1,8 +1,8 @@
 use borrow.Author.Needs.{needs}
 use mathlib.Core.Path.{_≡_, ap, sym}
-use mathlib.Core.Bool.{true, false, _&&_}
+use mathlib.Core.Bool.{true, false}
 use lib.Dec.{eqb}
-use Rattle.hall.specs.Log.{running, blank}
+use Rattle.hall.specs.Log.{running}
 use Rattle.std.proofs.shelf.Tests.{eq-eqb, ne-eqb}
 use Rattle.hall.proofs.Fronts.{occupies-step, occupies-ends, not-running}
 use Rattle.hall.proofs.vehicle.Vehicle.occupies.Needs as need
