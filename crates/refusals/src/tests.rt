@@ -116,10 +116,16 @@ fn booking() -> Result<(), Fail> {
     let Err(fault) = line(&mut board, b"V\t16\t0") else {
         return Err(Fail::new("accepted"));
     };
-    let report = fault.report(1);
-    check_eq(report.refusal, 20)?;
-    check_eq(report.field, 0)?;
-    check_eq(report.offset, 0)
+    check_eq(
+        fault.report(25),
+        FaultReport {
+            line: 25,
+            layer: 3,
+            refusal: 20,
+            field: 0,
+            offset: 0,
+        },
+    )
 }
 
 #[test]
