@@ -31,7 +31,7 @@ abbrev pub numberOf : List ℕ → Result ℕ NumberFault
 numberOf bs = cond (isNumber bs) (Ok (value 10 bs)) (Err Malformed)
 
 -- minutes and lengths are written as plain numbers
-abbrev pub minutesOf : List ℕ → Result ℕ NumberFault
+unfoldable pub minutesOf : List ℕ → Result ℕ NumberFault
 minutesOf bs = numberOf bs
 
 -- what is printed of a number below ten million reads back as that number
