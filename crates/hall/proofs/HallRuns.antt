@@ -19,7 +19,7 @@ use Rattle.hall.specs.Hall.{hallLog, Called}
 use Rattle.hall.specs.Job.{Place, Config, before, hallAutomaton, bookingOf, jobsOf, configOf}
 use Rattle.hall.specs.Log.{Log, emptyLog, vehicleAt, stepAt, marked, waiting, beginOf}
 use Rattle.hall.specs.Rules.{Call, enter, begin, finish, pass, answerTo, written, after, logAfterAll, enterLog, passLog}
-use Rattle.hall.specs.Series.{Made, Led, left, Kept-from-arguments, Accepted, Enters, Works, minutesOf, runStep, RunFrom, Runs-as-composed}
+use Rattle.hall.specs.Series.{Made, Led, left, Kept-from-arguments, Accepted, Enters, Works, durationOf, runStep, RunFrom, Runs-as-composed}
 use Rattle.hall.proofs.BeginSteps.{begins}
 use Rattle.hall.proofs.Begins.{may-begin}
 use Rattle.hall.proofs.Configurations.{same-jobs}
@@ -83,7 +83,7 @@ fresh-start l f =
 
 -- an accepted call is a step of the composition, and leaves the jobs
 step-of : (b b′ : Board) (c : Call) (n : ℕ) → Called b c (Ok n) b′ → Works c
-    → automaton.Step (hallAutomaton (jobsOf (hallLog b))) (minutesOf c) (configOf (hallLog b)) (configOf (hallLog b′))
+    → automaton.Step (hallAutomaton (jobsOf (hallLog b))) (durationOf c) (configOf (hallLog b)) (configOf (hallLog b′))
     × (jobsOf (hallLog b′) ≡ jobsOf (hallLog b))
 step-of b b′ (enter ss) n h w = absurd w
 step-of b b′ (begin v) n h w =
@@ -117,7 +117,7 @@ runs-on jobs b (m ∷ ms) j h e =
     let n = e .0 .1 .0 in
     let c : Called b (m .call) (Ok n) (m .board) = subst (λ r. Called b (m .call) r (m .board)) (e .0 .1 .1) (h .0) in
     let s = step-of b (m .board) (m .call) n c (e .0 .0) in (
-      subst (λ J. automaton.Step (hallAutomaton J) (minutesOf (m .call)) (configOf (hallLog b)) (configOf (hallLog (m .board)))) j (s .0),
+      subst (λ J. automaton.Step (hallAutomaton J) (durationOf (m .call)) (configOf (hallLog b)) (configOf (hallLog (m .board)))) j (s .0),
       runs-on jobs (m .board) ms (s .1 ∙ j) (h .1) (e .1),
     )
 

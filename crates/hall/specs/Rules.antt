@@ -4,6 +4,7 @@ use mathlib.Core.List.{List, [], _∷_, _++_, map}
 use Prim.Native.Nat.{ℕ, _+_}
 use lib.Dec.{leb, ltb}
 use lib.ListN.{length}
+use Rattle.std.specs.Iters.{folded}
 use Rattle.std.specs.declared.option.Option.{Option}
 use Rattle.std.specs.declared.option.Option.the-variants.{Some, None}
 use Rattle.std.specs.declared.result.Result.{Result}
@@ -119,5 +120,4 @@ logAfter l c = after (answerTo l c) (written l c) l
 
 -- the log after a series of calls: it is kept from their arguments alone
 abbrev pub logAfterAll : Log → List Call → Log
-logAfterAll l [] = l
-logAfterAll l (c ∷ cs) = logAfterAll (logAfter l c) cs
+logAfterAll l cs = folded logAfter l cs

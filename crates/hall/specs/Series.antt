@@ -51,15 +51,15 @@ Works (finish v) = Unit {0}
 Works (pass m) = Unit {0}
 
 -- the minutes that a call takes
-abbrev pub minutesOf : Call → ℕ
-minutesOf (enter ss) = 0
-minutesOf (begin v) = 0
-minutesOf (finish v) = 0
-minutesOf (pass m) = m
+abbrev pub durationOf : Call → ℕ
+durationOf (enter ss) = 0
+durationOf (begin v) = 0
+durationOf (finish v) = 0
+durationOf (pass m) = m
 
 -- what a call is in a run: its minutes, and the configuration that it leads to
 abbrev pub runStep : Made → ℕ × Config
-runStep m = (minutesOf (m .call), configOf (hallLog (m .board)))
+runStep m = (durationOf (m .call), configOf (hallLog (m .board)))
 
 -- from configuration x, the calls make a run of the composition of the log's jobs
 abbrev pub RunFrom : Board → Config → List Made → Type 0

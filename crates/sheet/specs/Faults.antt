@@ -1,7 +1,7 @@
 -- The numbers by which a fault is told, and a fault with its context.
 use Prim.Native.Nat.{ℕ}
+use Rattle.std.specs.Results.{mapped}
 use Rattle.std.specs.declared.result.Result.{Result}
-use Rattle.std.specs.declared.result.Result.the-variants.{Ok, Err}
 use Rattle.hall.specs.Faults.{refusalOf, fieldOf}
 use Rattle.sheet.specs.declared.fault.FaultReport.{FaultReport}
 use Rattle.sheet.specs.declared.fault.LineFault.{LineFault}
@@ -28,5 +28,4 @@ sheetReportOf (AtLine k f) = reportOf k f
 
 -- an answer with a context x beside its fault
 abbrev pub besideOf : {X T E : Type 0} → X → Result T E → Result T (X × E)
-besideOf x (Ok n) = Ok n
-besideOf x (Err e) = Err (x, e)
+besideOf x r = mapped (λ n. n) (λ e. (x, e)) r

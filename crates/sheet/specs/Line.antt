@@ -1,6 +1,7 @@
 -- What a line of a sheet does on the board.
 use mathlib.Core.List.{List}
 use Prim.Native.Nat.{ℕ}
+use Rattle.std.specs.Results.{mapped}
 use Rattle.std.specs.declared.result.Result.{Result}
 use Rattle.std.specs.declared.result.Result.the-variants.{Ok, Err}
 use Rattle.hall.specs.declared.board.Board.{Board}
@@ -16,8 +17,7 @@ use Rattle.sheet.specs.Reading.{offsetOf, readingOf}
 
 -- the board's answer, with a fault put at the byte offset of its field
 abbrev pub placedOf : List (List ℕ) → Result ℕ BoardFault → Result ℕ LineFault
-placedOf fs (Ok n) = Ok n
-placedOf fs (Err e) = Err (fault.Board e (offsetOf fs (fieldOf e)))
+placedOf fs r = mapped (λ n. n) (λ e. fault.Board e (offsetOf fs (fieldOf e))) r
 
 -- what a line with these fields answers, once it is read
 abbrev pub answerRead : Log → List (List ℕ) → Result Call LineFault → Result ℕ LineFault

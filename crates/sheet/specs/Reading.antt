@@ -5,6 +5,7 @@ use mathlib.Core.Path.{_≡_}
 use Prim.Native.Nat.{ℕ, suc, zero, _+_, _%_, _<_, _≤_}
 use lib.Dec.{leb, eqb}
 use lib.ListN.{length, take, drop, getD}
+use Rattle.std.specs.Results.{mapped}
 use Rattle.std.specs.declared.option.Option.{Option}
 use Rattle.std.specs.declared.option.Option.the-variants.{Some, None}
 use Rattle.std.specs.declared.result.Result.{Result}
@@ -62,13 +63,11 @@ valueOf Pass k f = minutesOf f
 
 -- a value, with its field and offset where it is malformed
 abbrev pub spotted : ℕ → ℕ → Result ℕ NumberFault → Result ℕ LineFault
-spotted k at (Ok n) = Ok n
-spotted k at (Err e) = Err (Number e k at)
+spotted k at r = mapped (λ n. n) (λ e. Number e k at) r
 
 -- f of what an answer holds
 abbrev pub onOk : {X Y E : Type 0} → (X → Y) → Result X E → Result Y E
-onOk f (Ok x) = Ok (f x)
-onOk f (Err e) = Err e
+onOk f r = mapped f (λ e. e) r
 
 -- a value in front of those of the fields behind it
 abbrev pub valueNext : Result ℕ LineFault → Result (List ℕ) LineFault → Result (List ℕ) LineFault

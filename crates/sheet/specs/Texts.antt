@@ -1,8 +1,8 @@
 -- The bytes of what is printed.
 use mathlib.Core.List.{List, [], _∷_}
 use Prim.Native.Nat.{ℕ}
+use Rattle.std.specs.Results.{mapped}
 use Rattle.std.specs.declared.result.Result.{Result}
-use Rattle.std.specs.declared.result.Result.the-variants.{Ok, Err}
 use Rattle.text.specs.Cells.{lineText}
 use Rattle.text.specs.declared.cells.Cell.{Cell}
 use Rattle.text.specs.declared.cells.Cell.the-variants.{Number, Symbol}
@@ -31,5 +31,4 @@ entryText e = lineText (Number (e .line)) (entryCells e)
 
 -- what printing answers, with its refusal as the sheet's
 abbrev pub sheetAnswer : Result ℕ PrintFault → Result ℕ SheetFault
-sheetAnswer (Ok n) = Ok n
-sheetAnswer (Err e) = Err NoRoom
+sheetAnswer r = mapped (λ n. n) (λ e. NoRoom) r
