@@ -4,7 +4,7 @@ ghost use mathlib.Core.List.{_++_};
 ghost use Rattle.std.specs.Of.Vec.{vec-items};
 ghost use Rattle.std.specs.Vec.{made};
 ghost use Rattle.sheet.specs.Texts.{entryText, faultText};
-ghost use Rattle.replay.specs.Replay.{replayText, Ran};
+ghost use Rattle.replay.specs.Replay.{replayText, Told, Ran};
 ghost use Rattle.replay.specs.declared.replaying.Stop.the-variants.{Memory, Fault};
 use hall::board::Board;
 use sheet::fault::SheetFault;
@@ -78,6 +78,7 @@ fn run(shown: &mut Vec<u8>, text: &[u8]) -> Result<(), Stop>
 // The text of what each line of a sheet did, up to the first that is refused, and then that one's fault.
 pub fn replay(heap: Global, text: &[u8]) -> Result<Vec<u8>, AllocError>
     ensures shown { λ r. ⌜ made r (λ shown. vec-items shown ≡ replayText (now (text .entry))) ⌝ }
+    ensures told { λ _. ⌜ Told (now (text .entry)) (replayText (now (text .entry))) ⌝ }
 {
     let mut shown = Vec::new(heap);
     match run(&mut shown, text) {

@@ -3,3 +3,4 @@ pub mod Readings
 pub mod Running
 pub mod Printing
 pub mod Offsets
+pub mod Spotted

@@ -101,6 +101,11 @@ fieldsRead fs (Some k) = cond (countFits k (length fs)) (onOk (callFor k) (value
 abbrev pub readingOf : List ℕ → Result Call LineFault
 readingOf bs = fieldsRead (parted 9 bs) (kindOf (getD (parted 9 bs) 0 []))
 
+-- the offset that a malformed number is told at is that of its field
+abbrev pub Numbers-spotted : List ℕ → Type 0
+Numbers-spotted bs =
+    (e : NumberFault) (k at : ℕ) → readingOf bs ≡ Err (Number e k at) → (k < length (parted 9 bs)) × (at ≡ offsetOf (parted 9 bs) k)
+
 -- the numbers of a table
 abbrev pub listed : Numbers → List ℕ
 listed n = take (n .len) (n .items)

@@ -3,7 +3,7 @@ ghost use mathlib.Core.Path.{_≡_};
 ghost use Rattle.hall.specs.Hall.{Called};
 ghost use Rattle.text.specs.Split.{parted};
 ghost use Rattle.sheet.specs.Line.{placedOf, LineCalled};
-ghost use Rattle.sheet.specs.Reading.{callOf, Within, Fields-stand};
+ghost use Rattle.sheet.specs.Reading.{callOf, Within, Fields-stand, Numbers-spotted};
 use crate::fault::LineFault;
 use crate::fault::LineFromBoard;
 use crate::fault::beside;
@@ -41,6 +41,7 @@ fn place(bytes: &[u8], answer: Result<u32, BoardFault>) -> Result<u32, LineFault
 pub fn line(board: &mut Board, bytes: &[u8]) -> Result<u32, LineFault>
     ensures called { λ r. ⌜ LineCalled (now (board .entry)) (now (bytes .entry)) r (now (board .exit)) ⌝ }
     ensures fields { λ _. ⌜ Fields-stand (now (bytes .entry)) ⌝ }
+    ensures spots { λ _. ⌜ Numbers-spotted (now (bytes .entry)) ⌝ }
 {
     let request = read(bytes)?;
     let answer = make(board, &request);
