@@ -1,0 +1,3 @@
+pub mod Scoring
+pub mod Greatest
+pub mod Scores

@@ -1,0 +1,4 @@
+pub mod Finishes
+pub mod Scores
+pub mod Greatest
+pub mod Faults

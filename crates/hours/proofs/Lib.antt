@@ -1,0 +1,3 @@
+pub mod Unique
+pub mod Fitting
+pub mod Minutes

@@ -1,0 +1,5 @@
+pub mod Limits
+pub mod Earliest
+pub mod Window
+pub mod Minutes
+pub mod Faults
