@@ -1,10 +1,10 @@
 // The goal of keeping due minutes.
 ghost use mathlib.Core.Path.{_≡_};
-ghost use lib.Dec.{leb};
 ghost use Rattle.std.specs.Results.{Cases};
+ghost use Rattle.std.specs.shelf.Lists.{leading};
 ghost use Rattle.std.specs.declared.option.Option.the-variants.{Some, None};
 ghost use Rattle.goals.specs.Scores.{withLateness, noLater};
-ghost use Rattle.goals.specs.Faults.{dueBeyond, dueFault};
+ghost use Rattle.goals.specs.Faults.{mayBeDue, dueFault};
 use crate::Goal;
 use crate::MOST_VEHICLES;
 use crate::fault::GoalFault;
@@ -21,21 +21,21 @@ pub struct GreatestLateness {
 
 // Whether a minute may be due.
 fn may_be_due(minute: u32) -> bool
-    ensures { λ r. ⌜ r ≡ leb minute 2000000 ⌝ }
+    ensures { λ r. ⌜ r ≡ mayBeDue minute ⌝ }
 {
     minute <= LAST_DUE
 }
 
-// The fault of the first due minute beyond the last one, if there is one.
-fn due_beyond(due: &[u32]) -> Option<GoalFault>
-    ensures { λ r. ⌜ r ≡ dueBeyond 0 (now (due .entry)) ⌝ }
+// How many minutes in front may be due, which is the index of the first that may not, if there is one.
+fn due_front(due: &[u32]) -> usize
+    ensures { λ r. ⌜ r ≡ leading mayBeDue (now (due .entry)) ⌝ }
 {
     for (i, minute) in due.iter().enumerate() {
         if !may_be_due(*minute) {
-            return Some(GoalFault::DueBeyond(i));
+            return i;
         }
     }
-    None
+    due.len()
 }
 
 impl GreatestLateness {
@@ -46,8 +46,9 @@ impl GreatestLateness {
         let Ok(table) = <[u32; MOST_VEHICLES]>::try_from(due) else {
             return Err(GoalFault::DueCount);
         };
-        if let Some(fault) = due_beyond(due) {
-            return Err(fault);
+        let front = due_front(due);
+        if front < due.len() {
+            return Err(GoalFault::DueBeyond(front));
         }
         Ok(GreatestLateness { due: table })
     }

@@ -1,9 +1,10 @@
 -- Why hours are refused: for each case its number and the index that it tells; and which windows and closures are refused.
 use mathlib.Core.Bool.{cond}
-use mathlib.Core.List.{List, [], _∷_}
-use Prim.Native.Nat.{ℕ, _+_}
+use mathlib.Core.List.{List}
+use Prim.Native.Nat.{ℕ}
 use lib.Dec.{ltb}
 use lib.ListN.{length}
+use Rattle.std.specs.shelf.Lists.{leading}
 use Rattle.std.specs.declared.option.Option.{Option}
 use Rattle.std.specs.declared.option.Option.the-variants.{Some, None}
 use Rattle.hours.specs.declared.fault.HoursFault.{HoursFault}
@@ -21,14 +22,11 @@ indexOf WindowCount = Some 256
 indexOf (WindowOutside i) = Some i
 indexOf ClosureOutside = None
 
--- the first window that is outside its limits; the windows are numbered from i on
-abbrev pub windowFault : ℕ → List Window → Option HoursFault
-windowFault i [] = None
-windowFault i (w ∷ ws) = cond (lawful w) (windowFault (i + 1) ws) (Some (WindowOutside i))
-
--- too many windows, else the first that is outside its limits
+-- too many windows, else the first that is outside its limits: the lawful ones in front of it are as many as its index
 abbrev pub windowsFault : List Window → Option HoursFault
-windowsFault ws = cond (ltb 256 (length ws)) (Some WindowCount) (windowFault 0 ws)
+windowsFault ws =
+    cond (ltb 256 (length ws)) (Some WindowCount)
+    (cond (ltb (leading lawful ws) (length ws)) (Some (WindowOutside (leading lawful ws))) None)
 
 -- a closure of station s from minute a up to minute z has the limits of a window
 abbrev pub closureFault : ℕ → ℕ → ℕ → Option HoursFault

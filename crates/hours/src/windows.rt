@@ -4,11 +4,12 @@ ghost use mathlib.Core.Bool.{_&&_};
 ghost use denote.Ref.{now};
 ghost use Rattle.std.specs.Results.{Cases};
 ghost use Rattle.std.specs.declared.option.Option.the-variants.{Some, None};
+ghost use Rattle.std.specs.shelf.Lists.{leading};
 ghost use Rattle.std.proofs.shelf.Tests.{and-parts};
 ghost use Rattle.hours.specs.Limits.{within, within-limits};
 ghost use Rattle.hours.specs.Earliest.{sooner};
-ghost use Rattle.hours.specs.Window.{fitsOne};
-ghost use Rattle.hours.specs.Faults.{windowFault, windowsFault};
+ghost use Rattle.hours.specs.Window.{lawful, fitsOne};
+ghost use Rattle.hours.specs.Faults.{windowsFault};
 use crate::Hours;
 use crate::fault::HoursFault;
 use crate::open::Open;
@@ -24,16 +25,16 @@ pub struct Windows<'a> {
     records: &'a [Window],
 }
 
-// The fault of the first record that is outside its limits, if there is one.
-fn window_fault(records: &[Window]) -> Option<HoursFault>
-    ensures { λ r. ⌜ r ≡ windowFault 0 (now (records .entry)) ⌝ }
+// How many windows in front are lawful, which is the index of the first that is not, if there is one.
+fn lawful_front(records: &[Window]) -> usize
+    ensures { λ r. ⌜ r ≡ leading lawful (now (records .entry)) ⌝ }
 {
     for (i, window) in records.iter().enumerate() {
         if !window.is_lawful() {
-            return Some(HoursFault::WindowOutside(i));
+            return i;
         }
     }
-    None
+    records.len()
 }
 
 impl<'a> Windows<'a> {
@@ -44,8 +45,9 @@ impl<'a> Windows<'a> {
         if records.len() > MOST_WINDOWS {
             return Err(HoursFault::WindowCount);
         }
-        if let Some(fault) = window_fault(records) {
-            return Err(fault);
+        let front = lawful_front(records);
+        if front < records.len() {
+            return Err(HoursFault::WindowOutside(front));
         }
         Ok(Windows { records })
     }
