@@ -69,10 +69,10 @@ pub impl Goal for GreatestLateness as GreatestLatenessGoal {
 
     fn add(&self, score: Option<i64>, vehicle: usize, finish: u32) -> Option<i64> {
         let lateness = i64::from(finish) - i64::from(self.due[vehicle]);
-        match score {
-            None => Some(lateness),
-            Some(greatest) => Some(greatest.max(lateness)),
-        }
+        let Some(greatest) = score else {
+            return Some(lateness);
+        };
+        Some(greatest.max(lateness))
     }
 
     fn no_worse(&self, a: Option<i64>, b: Option<i64>) -> bool {
