@@ -1,4 +1,6 @@
 // Goals: what a plan's finishes are worth, and which of two scores is no worse.
+#![tactic(auto)]
+
 ghost use Rattle.std.specs.Prelude.{◌≡◌, ℕ, ◌<◌, ◌≤◌, Bool, true, ◌⊎◌, List};
 ghost use Rattle.goals.specs.Finishes.{scored, Taken, NoLater};
 ghost use Rattle.goals.specs.Greatest.{LatestFinishIsGreatest, LatenessIsGreatest};

@@ -1,4 +1,6 @@
 // Opening hours: which steps may begin on which station, and when.
+#![tactic(auto)]
+
 ghost use Rattle.std.specs.Prelude.{◌≡◌, ℕ, Bool, true};
 ghost use Rattle.hours.specs.Limits.{Within};
 ghost use Rattle.hours.specs.Earliest.{Earliest, earliest_of};

@@ -1,5 +1,7 @@
 // Replays a day sheet: reads it from standard input, runs its lines on a new board, and prints what each of them did, or
 // the fault of the first that is refused.
+#![tactic(auto)]
+
 use replaying::replay;
 use std::io;
 use std::io::{Read, Write};

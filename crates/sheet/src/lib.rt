@@ -1,4 +1,6 @@
 // A day sheet: its lines read, run on the board one at a time, and what came of them printed.
+#![tactic(auto)]
+
 pub mod fault;
 mod kind;
 pub mod line;

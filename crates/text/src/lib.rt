@@ -1,4 +1,6 @@
 // The bytes of a sheet: lines of fields that tabs part, numbers read from them, and lines printed.
+#![tactic(auto)]
+
 pub mod bytes;
 pub mod cells;
 mod digits;
