@@ -11,11 +11,11 @@ use Rattle.text.proofs.cells.put_cells.Goals as goal
 pub loop-cell-init : goal.loop-cell-init
 loop-cell-init c = (sym (put_at_none c.args.out.now c.args.at), sym (add-zero c.args.at), c.requires)
 
-pub put-byte-start-requires : goal.put-byte-start-requires
-put-byte-start-requires c = omega (arith, joined_left cell_field c.args.cells.now c.loop-cell.cell-index (Number 0) (omega arith))
+pub put_byte-start-requires : goal.put_byte-start-requires
+put_byte-start-requires c = omega (arith, joined_left cell_field c.args.cells.now c.loop-cell.cell-index (Number 0) (omega arith))
 
-pub put-cell-end-requires : goal.put-cell-end-requires
-put-cell-end-requires c = omega (arith, joined_left cell_field c.args.cells.now c.loop-cell.cell-index (Number 0) (omega arith))
+pub put_cell-end-requires : goal.put_cell-end-requires
+put_cell-end-requires c = omega (arith, joined_left cell_field c.args.cells.now c.loop-cell.cell-index (Number 0) (omega arith))
 
 pub loop-cell-preserved : goal.loop-cell-preserved
 loop-cell-preserved c =
@@ -25,8 +25,8 @@ loop-cell-preserved c =
     let left = joined_left cell_field cs i (Number 0) (omega arith) in
     let more = joined_take cell_field cs i (Number 0) (omega arith) in
     let long = ap length more ∙ length-append (flat_map cell_field (take i cs)) (cell_field x) in
-    let cell = put_then c.loop-cell.out c.put-byte-start.new.out c.put-cell-end.new.out c.loop-cell.end c.put-byte-start.result (9 ∷ []) (cell_text x) c.put-byte-start.ensures.after c.put-byte-start.ensures.end c.put-cell-end.ensures.after (omega arith) in (
-      put_then c.args.out.now c.loop-cell.out c.put-cell-end.new.out c.args.at c.loop-cell.end (flat_map cell_field (take i cs)) (cell_field x) c.loop-cell.invariant.0 c.loop-cell.invariant.1 cell (omega arith)
+    let cell = put_then c.loop-cell.out c.put_byte-start.new.out c.put_cell-end.new.out c.loop-cell.end c.put_byte-start.result (9 ∷ []) (cell_text x) c.put_byte-start.ensures.after c.put_byte-start.ensures.end c.put_cell-end.ensures.after (omega arith) in (
+      put_then c.args.out.now c.loop-cell.out c.put_cell-end.new.out c.args.at c.loop-cell.end (flat_map cell_field (take i cs)) (cell_field x) c.loop-cell.invariant.0 c.loop-cell.invariant.1 cell (omega arith)
           ∙ ap (put_at c.args.out.now c.args.at) (sym more),
       omega arith,
       omega arith,

@@ -6,14 +6,14 @@ use Rattle.text.proofs.Puts.{put_then}
 use Rattle.text.proofs.Texts.{length-line_text}
 use Rattle.text.proofs.cells.put_line.Goals as goal
 
-pub put-cell-start-requires : goal.put-cell-start-requires
-put-cell-start-requires c = omega (arith, length-line_text c.args.first c.args.rest.now)
+pub put_cell-start-requires : goal.put_cell-start-requires
+put_cell-start-requires c = omega (arith, length-line_text c.args.first c.args.rest.now)
 
-pub put-cells-end-requires : goal.put-cells-end-requires
-put-cells-end-requires c = omega (arith, length-line_text c.args.first c.args.rest.now)
+pub put_cells-end-requires : goal.put_cells-end-requires
+put_cells-end-requires c = omega (arith, length-line_text c.args.first c.args.rest.now)
 
-pub put-byte-requires : goal.put-byte-requires
-put-byte-requires c = omega (arith, length-line_text c.args.first c.args.rest.now)
+pub put_byte-requires : goal.put_byte-requires
+put_byte-requires c = omega (arith, length-line_text c.args.first c.args.rest.now)
 
 pub returns : goal.returns
 unfolding line_text
@@ -21,8 +21,8 @@ returns c =
     let fs = flat_map cell_field c.args.rest.now in
     let long = length-append fs (10 ∷ []) in
     let all = length-line_text c.args.first c.args.rest.now in
-    let rest = put_then c.put-cell-start.new.out c.put-cells-end.new.out c.put-byte.new.out c.put-cell-start.result c.put-cells-end.result fs (10 ∷ []) c.put-cells-end.ensures.after c.put-cells-end.ensures.end c.put-byte.ensures.after (omega arith) in
+    let rest = put_then c.put_cell-start.new.out c.put_cells-end.new.out c.put_byte.new.out c.put_cell-start.result c.put_cells-end.result fs (10 ∷ []) c.put_cells-end.ensures.after c.put_cells-end.ensures.end c.put_byte.ensures.after (omega arith) in
     record {
-      after = put_then c.args.out.now c.put-cell-start.new.out c.put-byte.new.out 0 c.put-cell-start.result (cell_text c.args.first) (fs ++ (10 ∷ [])) c.put-cell-start.ensures.after c.put-cell-start.ensures.end rest (omega arith);
+      after = put_then c.args.out.now c.put_cell-start.new.out c.put_byte.new.out 0 c.put_cell-start.result (cell_text c.args.first) (fs ++ (10 ∷ [])) c.put_cell-start.ensures.after c.put_cell-start.ensures.end rest (omega arith);
       end = omega arith;
     }

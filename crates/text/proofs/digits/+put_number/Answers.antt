@@ -8,14 +8,14 @@ use Rattle.text.proofs.digits.+put_number.Goals as goal
 pub bounds-out-at : goal.bounds-out-at
 bounds-out-at t c = omega (arith, ap length (decimal_digit c.args.n (omega arith)))
 
-pub put-number-end-requires : goal.put-number-end-requires
-put-number-end-requires t c = (omega arith, omega (arith, decimal_longer c.args.n (omega arith) (omega arith)))
+pub put_number-end-requires : goal.put_number-end-requires
+put_number-end-requires t c = (omega arith, omega (arith, decimal_longer c.args.n (omega arith) (omega arith)))
 
 pub bounds-out-end : goal.bounds-out-end
 bounds-out-end t c = omega (arith, decimal_longer c.args.n (omega arith) (omega arith))
 
-pub overflow-add-result-else-n-lt10 : goal.overflow-add-result-else-n-lt10
-overflow-add-result-else-n-lt10 t c = omega (arith, decimal_longer c.args.n (omega arith) (omega arith))
+pub overflow_add-result-else-n-lt10 : goal.overflow_add-result-else-n-lt10
+overflow_add-result-else-n-lt10 t c = omega (arith, decimal_longer c.args.n (omega arith) (omega arith))
 
 pub returns-then-n-lt10 : goal.returns-then-n-lt10
 returns-then-n-lt10 t c =
@@ -28,10 +28,10 @@ returns-else-n-lt10 t c =
     let longer = decimal_longer c.args.n (omega arith) (omega arith) in
     let front = decimal (c.args.n / 10) in
     let d = 48 + c.args.n % 10 in
-    let last = put_at_one c.put-number-end.new.out c.put-number-end.result d (omega arith) in
+    let last = put_at_one c.put_number-end.new.out c.put_number-end.result d (omega arith) in
     record {
       after =
-          put_then c.args.out.now c.put-number-end.new.out _ c.args.at c.put-number-end.result front (d ∷ []) c.put-number-end.ensures.after c.put-number-end.ensures.end last (omega arith)
+          put_then c.args.out.now c.put_number-end.new.out _ c.args.at c.put_number-end.result front (d ∷ []) c.put_number-end.ensures.after c.put_number-end.ensures.end last (omega arith)
           ∙ ap (put_at c.args.out.now c.args.at) (sym (decimal_step c.args.n (omega arith) (omega arith)));
       end = omega arith;
     }

@@ -3,8 +3,8 @@ use Rattle.std.proofs.lemmas.Fmt.{decimal_digit}
 use Rattle.text.proofs.Texts.{cell_short, decimal_longer}
 use Rattle.text.proofs.digits.+width.Goals as goal
 
-pub overflow-add-result : goal.overflow-add-result
-overflow-add-result t c = omega (arith, cell_short (c.args.n / 10) (omega arith))
+pub overflow_add-result : goal.overflow_add-result
+overflow_add-result t c = omega (arith, cell_short (c.args.n / 10) (omega arith))
 
 pub returns-then-n-lt10 : goal.returns-then-n-lt10
 returns-then-n-lt10 t c = record { value = omega (arith, ap length (decimal_digit c.args.n (omega arith))); bound = omega arith }

@@ -3,4 +3,4 @@ use Rattle.text.proofs.number.read_minutes.Goals as goal
 
 pub returns : goal.returns
 unfolding minutes_of
-returns c = c.read-number.ensures.value
+returns c = c.read_number.ensures.value

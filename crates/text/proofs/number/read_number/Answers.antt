@@ -15,27 +15,27 @@ pub loop-b-init : goal.loop-b-init
 loop-b-init c = (omega arith, number_of_shape c.args.field.now (shape c.args.field.now c.if-field-eq0.false (omega arith) c.else-field-eq48.either))
 
 -- the digit of this turn
-got : (c : goal.In-ok-n) → digit_of (get_or c.args.field.now c.loop-b.b-index 0) ≡ Ok c.in-ok-n.field-0
-got c = sym c.in-ok-n.ensures
+got : (c : goal.In_ok-n) → digit_of (get_or c.args.field.now c.loop-b.b-index 0) ≡ Ok c.in_ok-n.field-0
+got c = sym c.in_ok-n.ensures
 
-pub overflow-mul-n : goal.overflow-mul-n
-overflow-mul-n c = omega (arith, fits c.loop-b.b-index c.loop-b.n 0 (omega arith) c.loop-b.invariant.0 (omega arith))
+pub overflow_mul-n : goal.overflow_mul-n
+overflow_mul-n c = omega (arith, fits c.loop-b.b-index c.loop-b.n 0 (omega arith) c.loop-b.invariant.0 (omega arith))
 
-pub returns-in-err-n : goal.returns-in-err-n
-returns-in-err-n c =
-    let p = err_from_is_err_and c.from-residual.result c.from-residual.ensures.1 in
-    let missed : digit_of (get_or c.args.field.now c.loop-b.b-index 0) ≡ Err c.in-err-n.field-0.0 = sym {a = Err c.in-err-n.field-0.0} c.in-err-n.ensures in
+pub returns-in_err-n : goal.returns-in_err-n
+returns-in_err-n c =
+    let p = err_from_is_err_and c.from_residual.result c.from_residual.ensures.1 in
+    let missed : digit_of (get_or c.args.field.now c.loop-b.b-index 0) ≡ Err c.in_err-n.field-0.0 = sym {a = Err c.in_err-n.field-0.0} c.in_err-n.ensures in
     record {
       value =
           p.1 ∙ ap Err p.2
-          ∙ sym (read_on_stop c.loop-b.n c.args.field.now c.loop-b.b-index c.in-err-n.field-0.0 (omega arith) missed)
+          ∙ sym (read_on_stop c.loop-b.n c.args.field.now c.loop-b.b-index c.in_err-n.field-0.0 (omega arith) missed)
           ∙ c.loop-b.invariant.1;
-      small = IfOk-from_err c.from-residual.result _ c.from-residual.ensures.0;
+      small = IfOk-from_err c.from_residual.result _ c.from_residual.ensures.0;
       reads_back = reads_back;
     }
 
-pub overflow-add-n : goal.overflow-add-n
-overflow-add-n c = let d = digit_ok (get_or c.args.field.now c.loop-b.b-index 0) _ (got c) in omega (arith, fits c.loop-b.b-index c.loop-b.n c.in-ok-n.field-0 (omega arith) c.loop-b.invariant.0 d.2)
+pub overflow_add-n : goal.overflow_add-n
+overflow_add-n c = let d = digit_ok (get_or c.args.field.now c.loop-b.b-index 0) _ (got c) in omega (arith, fits c.loop-b.b-index c.loop-b.n c.in_ok-n.field-0 (omega arith) c.loop-b.invariant.0 d.2)
 
 pub loop-b-preserved : goal.loop-b-preserved
 loop-b-preserved c =

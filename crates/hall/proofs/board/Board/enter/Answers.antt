@@ -1,4 +1,5 @@
 use Rattle.std.proofs.Common.{◌≡◌, ◌≤◌, length, Some, None, Ok, sym, ap, ◌∙◌, subst, inl, inr, ⊎_elim, arith, rules}
+use Rattle.std.proofs.lemmas.List.{length-set}
 use Rattle.hall.specs.Hall.{hall_log}
 use Rattle.hall.specs.Lasting.{Lasting}
 use Rattle.hall.specs.Rules.{enter}
@@ -10,8 +11,8 @@ use Rattle.hall.proofs.KeptByEnter.{lasts_enter}
 use Rattle.hall.proofs.Rows.{log_length}
 use Rattle.hall.proofs.board.Board.enter.Goals as goal
 
-pub returns-then-self-ge-MOST-VEHICLES : goal.returns-then-self-ge-MOST-VEHICLES
-returns-then-self-ge-MOST-VEHICLES c =
+pub returns-then-self-ge-MOST_VEHICLES : goal.returns-then-self-ge-MOST_VEHICLES
+returns-then-self-ge-MOST_VEHICLES c =
     let b = c.args.self.now in
     let ss = c.args.steps.now in
     record { called = turned_down b (enter ss) BoardFull (enter_full (hall_log b) ss (omega (arith, log_length b))) }
@@ -31,30 +32,23 @@ returns-in-Some c =
           (enter_steps (hall_log b) ss (omega (arith, log_length b)) (omega arith) (omega arith) (Some c.in-Some.fault) c.in-Some.ensures);
     }
 
-pub invariant-of-self : goal.invariant-of-self
-invariant-of-self c =
+pub invariant_of-self-clause-counted : goal.invariant_of-self-clause-counted
+invariant_of-self-clause-counted c =
+    let b = c.args.self.now in
+    each_set (λ w. w.len ≤ 8) b.vehicles b.count c.booked.result b.counted (omega (arith, c.booked.ensures.len))
+
+pub invariant_of-self-clause-filled : goal.invariant_of-self-clause-filled
+invariant_of-self-clause-filled c =
+    let b = c.args.self.now in
+    each_set (λ w. length w.steps ≡ 8) b.vehicles b.count c.booked.result b.filled c.booked.ensures.table
+
+pub invariant_of-self-clause-lasting : goal.invariant_of-self-clause-lasting
+invariant_of-self-clause-lasting c =
     let b = c.args.self.now in
     let ss = c.args.steps.now in
-    let e = entered b.vehicles b.count b.minute c.booked.result ss (omega (arith, b.table)) c.booked.ensures.steps in (
-      search rules,
-      (
-        search rules,
-        (
-          each_set (λ w. w.len ≤ 8) b.vehicles b.count c.booked.result b.counted (omega (arith, c.booked.ensures.len)),
-          (
-            each_set (λ w. length w.steps ≡ 8) b.vehicles b.count c.booked.result b.filled c.booked.ensures.table,
-            (
-              search rules,
-              (
-                subst (λ l. ∥ Lasting l ∥₁) (sym e)
-                    ∣ lasts_enter (hall_log b) ss (kept b) (omega (arith, log_length b)) (omega arith) (omega arith) (sym c.in-default.ensures) ∣₁,
-                tt,
-              ),
-            ),
-          ),
-        ),
-      ),
-    )
+    let e = entered b.vehicles b.count b.minute c.booked.result ss (omega (arith, b.table)) c.booked.ensures.steps in
+    subst (λ l. ∥ Lasting l ∥₁) (sym e)
+    ∣ lasts_enter (hall_log b) ss (kept b) (omega (arith, log_length b)) (omega arith) (omega arith) (sym c.in_default.ensures) ∣₁
 
 pub returns : goal.returns
 returns c =
@@ -62,6 +56,9 @@ returns c =
     let ss = c.args.steps.now in
     record {
       called = accepted b (enter ss) _ b.count
-          (ap Ok (sym (log_length b)) ∙ enter_steps (hall_log b) ss (omega (arith, log_length b)) (omega arith) (omega arith) None c.in-default.ensures)
+          (ap Ok (sym (log_length b)) ∙ enter_steps (hall_log b) ss (omega (arith, log_length b)) (omega arith) (omega arith) None c.in_default.ensures)
           (entered b.vehicles b.count b.minute c.booked.result ss (omega (arith, b.table)) c.booked.ensures.steps);
     }
+
+pub invariant_of-self-clause-table : goal.invariant_of-self-clause-table
+invariant_of-self-clause-table c = length-set c.args.self.now.vehicles c.args.self.now.count c.booked.result ∙ c.args.self.now.table

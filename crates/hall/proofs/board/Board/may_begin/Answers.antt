@@ -14,13 +14,13 @@ returns-in-Some c =
     let r = row_some b c.args.vehicle c.if-v-self.false running_step c.in-Some.field-0 c.in-Some.ensures in
     begin_runs (hall_log b) c.args.vehicle (omega (arith, log_length b)) (omega (arith, r.0, r.1))
 
-pub returns-in-default-next : goal.returns-in-default-next
-returns-in-default-next c =
+pub returns-in_default-next : goal.returns-in_default-next
+returns-in_default-next c =
     let b = c.args.self.now in
     let v = c.args.vehicle in
     let lt = c.if-v-self.false in
-    begin_none (hall_log b) v (omega (arith, log_length b)) (row_none b v lt running_step c.in-default.ensures)
-    (row_none b v lt next_step c.in-default-next.ensures)
+    begin_none (hall_log b) v (omega (arith, log_length b)) (row_none b v lt running_step c.in_default.ensures)
+    (row_none b v lt next_step c.in_default-next.ensures)
 
 pub returns-then-taken : goal.returns-then-taken
 returns-then-taken c =
@@ -28,7 +28,7 @@ returns-then-taken c =
     let v = c.args.vehicle in
     let lt = c.if-v-self.false in
     let n = row_some b v lt next_step c.in-Some-next.next c.in-Some-next.ensures in
-    begin_taken (hall_log b) v (omega (arith, log_length b)) (row_none b v lt running_step c.in-default.ensures) (omega (arith, n.0, n.1))
+    begin_taken (hall_log b) v (omega (arith, log_length b)) (row_none b v lt running_step c.in_default.ensures) (omega (arith, n.0, n.1))
     (row_taken b v lt c.in-Some-next.next true n.0 n.1 c.if-taken.ensures)
 
 pub returns : goal.returns
@@ -38,5 +38,5 @@ returns c =
     let lt = c.if-v-self.false in
     let n = row_some b v lt next_step c.in-Some-next.next c.in-Some-next.ensures in
     ap Ok (sym n.0)
-    ∙ begin_ok (hall_log b) v (omega (arith, log_length b)) (row_none b v lt running_step c.in-default.ensures) (omega (arith, n.0, n.1))
+    ∙ begin_ok (hall_log b) v (omega (arith, log_length b)) (row_none b v lt running_step c.in_default.ensures) (omega (arith, n.0, n.1))
     (row_taken b v lt c.in-Some-next.next false n.0 n.1 c.if-taken.ensures)

@@ -9,14 +9,14 @@ use Rattle.hall.proofs.board.Board.may_finish.Goals as goal
 pub returns-then-v-self : goal.returns-then-v-self
 returns-then-v-self c = finish_unknown (hall_log c.args.self.now) c.args.vehicle (omega (arith, log_length c.args.self.now))
 
-pub returns-in-default : goal.returns-in-default
-returns-in-default c =
+pub returns-in_default : goal.returns-in_default
+returns-in_default c =
     let b = c.args.self.now in
     finish_none (hall_log b) c.args.vehicle (omega (arith, log_length b))
-    (row_none b c.args.vehicle c.if-v-self.false running_step c.in-default.ensures)
+    (row_none b c.args.vehicle c.if-v-self.false running_step c.in_default.ensures)
 
-pub overflow-sub-self : goal.overflow-sub-self
-overflow-sub-self c =
+pub overflow_sub-self : goal.overflow_sub-self
+overflow_sub-self c =
     let b = c.args.self.now in
     let v = c.args.vehicle in
     let lt = c.if-v-self.false in

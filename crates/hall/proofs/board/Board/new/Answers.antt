@@ -3,8 +3,8 @@ use Rattle.hall.proofs.HallRuns.{kept_from_arguments, runs_as_composed}
 use Rattle.hall.proofs.Keeping.{lasts_empty}
 use Rattle.hall.proofs.board.Board.new.Goals as goal
 
-pub invariant-of-result : goal.invariant-of-result
-invariant-of-result c = (search rules, (search rules, (search rules, (search rules, (search rules, (∣ lasts_empty ∣₁, tt))))))
+pub invariant_of-result-clause-lasting : goal.invariant_of-result-clause-lasting
+invariant_of-result-clause-lasting c = ∣ lasts_empty ∣₁
 
 pub returns : goal.returns
 returns c = record {

@@ -7,24 +7,10 @@ use Rattle.hall.proofs.Kept.{kept}
 use Rattle.hall.proofs.PassSteps.{pass_ok, passes}
 use Rattle.hall.proofs.board.Board.pass.Goals as goal
 
-pub invariant-of-self : goal.invariant-of-self
-invariant-of-self c =
-    let b = c.args.self.now in (
-      search rules,
-      (
-        search rules,
-        (
-          search rules,
-          (
-            search rules,
-            (
-              search rules,
-              (∣ lasts_pass (hall_log b) c.args.minutes (kept b) (omega arith) ∣₁, tt),
-            ),
-          ),
-        ),
-      ),
-    )
+pub invariant_of-self-clause-lasting : goal.invariant_of-self-clause-lasting
+invariant_of-self-clause-lasting c =
+    let b = c.args.self.now in
+    ∣ lasts_pass (hall_log b) c.args.minutes (kept b) (omega arith) ∣₁
 
 pub returns : goal.returns
 returns c =

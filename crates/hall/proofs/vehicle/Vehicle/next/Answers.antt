@@ -12,7 +12,7 @@ returns-in-Waiting c =
 
 pub loop-i-preserved : goal.loop-i-preserved
 loop-i-preserved c =
-    front_passes begun _ _ _ blank (search rules) c.loop-i-test.true (ap not (not_waiting _ c.in-default.not-Waiting)) c.loop-i.invariant
+    front_passes begun _ _ _ blank (search rules) c.loop-i-test.true (ap not (not_waiting _ c.in_default.not-Waiting)) c.loop-i.invariant
 
 pub returns : goal.returns
 returns c = step_none _ _ (omega (arith, front_ends begun _ _ _ c.loop-i.auto.i-end c.loop-i-test.false c.loop-i.invariant))

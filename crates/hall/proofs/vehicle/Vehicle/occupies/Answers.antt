@@ -3,7 +3,7 @@ use Rattle.hall.specs.Log.{running}
 use Rattle.std.proofs.lemmas.Bool.{eq-eqb, ne_eqb}
 use Rattle.hall.proofs.Fronts.{occupies_step, occupies_ends, not_running}
 use Rattle.hall.proofs.vehicle.Vehicle.occupies.Goals as goal
-use Rattle.hall.proofs.vehicle.Vehicle.occupies.Goals.{in-Running+else-record-station, in-default}
+use Rattle.hall.proofs.vehicle.Vehicle.occupies.Goals.{in-Running+else-record-station, in_default}
 
 pub returns-then-record-station : goal.returns-then-record-station
 returns-then-record-station c =
@@ -19,7 +19,7 @@ loop-i-preserved c =
           let r : running _ ≡ true = ap running w.in-Running.is in
           let s : eqb _ _ ≡ false = ne_eqb _ _ w.if-record-station.false in
           simp (r, s) at step
-      | in-default w ↦ let r : running _ ≡ false = not_running _ w.in-default.not-Running in simp r at step
+      | in_default w ↦ let r : running _ ≡ false = not_running _ w.in_default.not-Running in simp r at step
     ]
 
 pub returns : goal.returns

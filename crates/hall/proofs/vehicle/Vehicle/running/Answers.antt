@@ -12,7 +12,7 @@ returns-in-Running c =
 
 pub loop-i-preserved : goal.loop-i-preserved
 loop-i-preserved c =
-    front_passes idle _ _ _ blank (search rules) c.loop-i-test.true (ap not (not_running _ c.in-default.not-Running)) c.loop-i.invariant
+    front_passes idle _ _ _ blank (search rules) c.loop-i-test.true (ap not (not_running _ c.in_default.not-Running)) c.loop-i.invariant
 
 pub returns : goal.returns
 returns c = step_none _ _ (omega (arith, front_ends idle _ _ _ c.loop-i.auto.i-end c.loop-i-test.false c.loop-i.invariant))
