@@ -10,9 +10,9 @@ pub returns-then-end-line : goal.returns-then-end-line
 returns-then-end-line c =
     let xs = c.args.line.now in
     let at = c.loop-k.at in
-    let m = c.args.field - c.loop-k.-k - 1 in
-    let s : c.args.field - c.loop-k.-k ≡ suc m = omega arith in
-    let e : offset_of (parted 9 (drop at xs)) (c.args.field - c.loop-k.-k) ≡ length (drop at xs) =
+    let m = c.args.field - c.loop-k._k - 1 in
+    let s : c.args.field - c.loop-k._k ≡ suc m = omega arith in
+    let e : offset_of (parted 9 (drop at xs)) (c.args.field - c.loop-k._k) ≡ length (drop at xs) =
     ap (offset_of (parted 9 (drop at xs))) s ∙ ap (λ ps. offset_of ps (suc m)) (piece_end 9 xs at c.find-end.result c.loop-k.invariant.0 c.find-end.ensures.is (omega arith)) in
     omega (arith, e, length-drop at xs)
 
@@ -21,14 +21,14 @@ loop-k-preserved c =
     let xs = c.args.line.now in
     let at = c.loop-k.at in
     let end = c.find-end.result in
-    let m = c.args.field - (c.loop-k.-k + 1) in
-    let s : c.args.field - c.loop-k.-k ≡ suc m = omega arith in
-    let e : offset_of (parted 9 (drop at xs)) (c.args.field - c.loop-k.-k) ≡ length (before 9 (drop at xs)) + 1 + offset_of (parted 9 (drop (end + 1) xs)) m =
+    let m = c.args.field - (c.loop-k._k + 1) in
+    let s : c.args.field - c.loop-k._k ≡ suc m = omega arith in
+    let e : offset_of (parted 9 (drop at xs)) (c.args.field - c.loop-k._k) ≡ length (before 9 (drop at xs)) + 1 + offset_of (parted 9 (drop (end + 1) xs)) m =
     ap (offset_of (parted 9 (drop at xs))) s ∙ ap (λ ps. offset_of ps (suc m)) (piece_more 9 xs at end c.find-end.ensures.is (omega arith))
     ∙ offset_of_more _ _ m (parted_some 9 (drop (end + 1) xs)) in
     (omega arith, omega (arith, e))
 
 pub returns : goal.returns
 returns c =
-    let z : c.args.field - c.loop-k.-k ≡ 0 = omega arith in
+    let z : c.args.field - c.loop-k._k ≡ 0 = omega arith in
     omega (arith, ap (offset_of (parted 9 (drop c.loop-k.at c.args.line.now))) z, offset_of_none (parted 9 (drop c.loop-k.at c.args.line.now)))

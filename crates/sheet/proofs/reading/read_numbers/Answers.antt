@@ -13,16 +13,16 @@ loop-k-init c =
     let f = first_field c.args.line.now (omega arith) (omega arith) in
     (refl, λ h. f, on_ok_id _)
 
-pub returns-in-err-items : goal.returns-in-err-items
-returns-in-err-items c =
+pub returns-in_err-items : goal.returns-in_err-items
+returns-in_err-items c =
     let xs = c.args.line.now in
     let k = c.loop-k.k in
     let here = c.loop-k.invariant.1 c.loop-k-test.true in
-    let p = err_from_is_err_and c.from-residual.result c.from-residual.ensures.1 in
-    let e = turn_stop c.args.kind xs (parted 9 xs) (take k c.loop-k.items) (k + 1) c.loop-k.at c.find-end.result here.1 c.find-end.ensures.is c.in-err-items.field-0.0 c.in-err-items.ensures in
+    let p = err_from_is_err_and c.from_residual.result c.from_residual.ensures.1 in
+    let e = turn_stop c.args.kind xs (parted 9 xs) (take k c.loop-k.items) (k + 1) c.loop-k.at c.find-end.result here.1 c.find-end.ensures.is c.in_err-items.field-0.0 c.in_err-items.ensures in
     record {
       value = ap (on_ok listed) (p.1 ∙ ap Err p.2) ∙ e ∙ c.loop-k.invariant.2;
-      len = IfOk-from_err c.from-residual.result _ c.from-residual.ensures.0;
+      len = IfOk-from_err c.from_residual.result _ c.from_residual.ensures.0;
     }
 
 pub loop-k-preserved : goal.loop-k-preserved
@@ -30,12 +30,12 @@ loop-k-preserved c =
     let xs = c.args.line.now in
     let fs = parted 9 xs in
     let k = c.loop-k.k in
-    let n = c.in-ok-items.field-0 in
+    let n = c.in_ok-items.field-0 in
     let here = c.loop-k.invariant.1 c.loop-k-test.true in
     let is = c.find-end.ensures.is in
     let end = c.find-end.result in
     let ns = take k c.loop-k.items in
-    let more = turn_more c.args.kind xs fs ns (k + 1) c.loop-k.at end here.1 is n c.in-ok-items.ensures in
+    let more = turn_more c.args.kind xs fs ns (k + 1) c.loop-k.at end here.1 is n c.in_ok-items.ensures in
     let tk = take_more_set c.loop-k.items k n (omega arith) in (
       length-set c.loop-k.items k n ∙ c.loop-k.invariant.0,
       elim c.if-end-line.branch [

@@ -13,8 +13,8 @@ returns-then-at-text c =
     let d = next_none (number c.args.self.now) (left c.args.text.now c.args.self.now) (hall_log c.args.board.now) e in
     record { answer = d.0; log = d.1; unchanged = tt; rest = d.2; counted = d.3 }
 
-pub returns-in-err-answer : goal.returns-in-err-answer
-returns-in-err-answer c =
+pub returns-in_err-answer : goal.returns-in_err-answer
+returns-in_err-answer c =
     let xs = c.args.text.now in
     let at = c.args.self.now.at in
     let end = c.find-end.result in
@@ -22,16 +22,16 @@ returns-in-err-answer c =
     let log = hall_log c.args.board.now in
     let h : at < length xs = omega arith in
     let is = c.find-end.ensures.is in
-    let f = c.in-err-answer.field-0.0 in
-    let p = err_from_is_err_and c.from-residual.result c.from-residual.ensures.1 in
-    let o = beside_err k c.line.result f c.in-err-answer.ensures in
+    let f = c.in_err-answer.field-0.0 in
+    let p = err_from_is_err_and c.from_residual.result c.from_residual.ensures.1 in
+    let o = beside_err k c.line.result f c.in_err-answer.ensures in
     let same = refused_at_err c.line.result (λ _. c.line.new.board ≡ c.args.board.now) f.1 o.0 c.line.ensures.called.unchanged in
     record {
-      answer = p.1 ∙ ap Err p.2 ∙ next_refused xs at end k log h is c.line.result c.line.ensures.called.answer f c.in-err-answer.ensures;
+      answer = p.1 ∙ ap Err p.2 ∙ next_refused xs at end k log h is c.line.result c.line.ensures.called.answer f c.in_err-answer.ensures;
       log = c.line.ensures.called.log ∙ next_log xs at end k log h is;
-      unchanged = refused_from_err c.from-residual.result _ p.0 p.1 (same, refl);
-      rest = IfOk-from_err c.from-residual.result _ c.from-residual.ensures.0;
-      counted = IfOk-from_err c.from-residual.result _ c.from-residual.ensures.0;
+      unchanged = refused_from_err c.from_residual.result _ p.0 p.1 (same, refl);
+      rest = IfOk-from_err c.from_residual.result _ c.from_residual.ensures.0;
+      counted = IfOk-from_err c.from_residual.result _ c.from_residual.ensures.0;
     }
 
 pub returns : goal.returns
@@ -44,7 +44,7 @@ returns c =
     let h : at < length xs = omega arith in
     let is = c.find-end.ensures.is in
     record {
-      answer = next_accepted xs at end k log h is c.line.result c.line.ensures.called.answer c.in-ok-answer.answer c.in-ok-answer.ensures;
+      answer = next_accepted xs at end k log h is c.line.result c.line.ensures.called.answer c.in_ok-answer.answer c.in_ok-answer.ensures;
       log = c.line.ensures.called.log ∙ next_log xs at end k log h is;
       unchanged = tt;
       rest = next_rest xs at end k log h is c.past-self.result c.past-self.ensures;
