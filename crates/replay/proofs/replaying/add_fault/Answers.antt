@@ -3,14 +3,14 @@ use Rattle.replay.proofs.Adding.{counted, not_refused, front, added}
 use Rattle.replay.proofs.replaying.add_fault.Goals as goal
 
 pub unreachable-requires : goal.unreachable-requires
-unreachable-requires c = not_refused _ _ _ c.in-default.ensures.answer (omega (arith, c.print-fault.ensures.short))
+unreachable-requires c = not_refused _ _ _ c.in_default.ensures.answer (omega (arith, c.print_fault.ensures.short))
 
-pub slice-bounds-extend-from-slice-end : goal.slice-bounds-extend-from-slice-end
-slice-bounds-extend-from-slice-end c =
-    let n = counted _ _ c.in-Ok.n c.in-Ok.ensures.answer (omega (arith, c.print-fault.ensures.short)) in
-    let le : c.in-Ok.n ≤ 128 = omega (arith, c.print-fault.ensures.short) in
+pub slice_bounds-extend_from_slice-end : goal.slice_bounds-extend_from_slice-end
+slice_bounds-extend_from_slice-end c =
+    let n = counted _ _ c.in-Ok.n c.in-Ok.ensures.answer (omega (arith, c.print_fault.ensures.short)) in
+    let le : c.in-Ok.n ≤ 128 = omega (arith, c.print_fault.ensures.short) in
     search rules
 
 pub returns : goal.returns
-returns c = added _ _ _ _ _ c.extend-from-slice.ensures.items
-    (front _ _ c.in-Ok.n c.print-fault.new.place c.in-Ok.ensures.answer c.print-fault.ensures.after (omega (arith, c.print-fault.ensures.short)))
+returns c = added _ _ _ _ _ c.extend_from_slice.ensures.items
+    (front _ _ c.in-Ok.n c.print_fault.new.place c.in-Ok.ensures.answer c.print_fault.ensures.after (omega (arith, c.print_fault.ensures.short)))
