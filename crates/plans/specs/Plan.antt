@@ -1,5 +1,5 @@
 -- Whole plans of a hall log, and the plan that rows make.
-use Rattle.std.specs.Prelude.{◌≡◌, ℕ, suc, ◌+◌, ◌-◌, ◌≤◌, max, Bool, true, cond, ◌⊎◌, List, fold, ◌==◌}
+use Rattle.std.specs.Prelude.{◌≡◌, ℕ, suc, ◌+◌, ◌-◌, ◌≤◌, max, true, cond, ◌⊎◌, List, fold, ◌==◌}
 use Rattle.hall.specs.Log.{Log, begin_of, end_of}
 use Rattle.hall.specs.declared.step.Progress.{Progress}
 use Rattle.hall.specs.declared.step.Progress.TheVariants.{Waiting, Running, Done}

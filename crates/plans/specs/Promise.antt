@@ -10,7 +10,7 @@ use Rattle.plans.specs.Steps.{fleet}
 use Rattle.plans.specs.Meanings.{Hours, Goal}
 use Rattle.plans.specs.Plan.{Plan, WholePlan, planned, plan_score}
 use Rattle.plans.specs.Position.{Position, root, left, bound, Immediate}
-use Rattle.plans.specs.Walk.{State, walk, tree, FullWalk, full_visits}
+use Rattle.plans.specs.Walk.{walk, tree, FullWalk, full_visits}
 
 -- the outcome of the walk, by what is due and the best plan held
 abbrev pub outcome_of : {S : Type 0} → Goal S → Log → List Position → Option Position → Outcome S

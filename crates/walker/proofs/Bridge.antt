@@ -1,5 +1,5 @@
 -- The code visits as the walk over the hall log does.
-use Rattle.std.proofs.Common.{◌≡◌, ℕ, zero, suc, ◌+◌, Bool, true, false, cond, eqb, List, [], ◌∷◌, ◌++◌, map, length, Some, None, Option, sym, refl, ap, ◌∙◌, subst, add-one, arith, length-set}
+use Rattle.std.proofs.Common.{◌≡◌, ℕ, zero, suc, ◌+◌, Bool, true, false, cond, List, [], ◌∷◌, ◌++◌, map, Some, None, Option, sym, refl, ap, ◌∙◌, subst, add-one, arith, length-set}
 use Rattle.std.proofs.lemmas.List.{map-append}
 use Rattle.std.proofs.ByRecursion.{All-append}
 use Rattle.std.specs.List.{AllByRecursion as All}
@@ -11,7 +11,7 @@ use Rattle.plans.specs.Position.{Position as Place, map_option, is_leaf, bound}
 use Rattle.plans.specs.Walk.{State, Effect, dropped, effect, visit_first, visit, after}
 use Rattle.plans.specs.Walk.{children as all-children}
 use Rattle.walker.specs.declared.position.Position.{Position}
-use Rattle.walker.specs.Moves.{Query, steps_left, next_in, begin_in, advanced, FleetOk}
+use Rattle.walker.specs.Moves.{Query, next_in, begin_in, advanced, FleetOk}
 use Rattle.walker.specs.Bounds.{bound_in}
 use Rattle.walker.specs.Trail.{Due, child_by, children, children_from}
 use Rattle.walker.specs.Visits.{Held, Stage, stage, beats, score_held, visit_top, visit_due, visit_once, visits_of}

@@ -1,10 +1,10 @@
 -- One vehicle more to move, and what a move needs.
-use Rattle.std.proofs.Common.{◌≡◌, ℕ, zero, suc, ◌+◌, ◌-◌, ◌<◌, ◌≤◌, Bool, true, false, cond, List, [], ◌∷◌, ◌++◌, length, get_or, take, set, Some, None, Option, sym, refl, ap, ◌∙◌, arith, ltb-true}
+use Rattle.std.proofs.Common.{◌≡◌, ℕ, suc, ◌+◌, ◌-◌, ◌<◌, ◌≤◌, Bool, true, false, cond, List, ◌++◌, length, Some, None, Option, refl, ap, arith, ltb-true}
 use Rattle.hall.specs.declared.vehicle.Vehicle.{Vehicle}
 use Rattle.walker.specs.declared.position.Position.{Position}
 use Rattle.plans.specs.declared.row.Row.{Row}
-use Rattle.walker.specs.Moves.{Query, advanced, row_in, begin_in, begun_in, has_step, next_in, from_minute, vehicle_in, CanMove, FleetOk}
-use Rattle.walker.specs.Trail.{Due, child, child_by, children, children_from}
+use Rattle.walker.specs.Moves.{Query, begin_in, has_step, next_in, from_minute, CanMove, FleetOk}
+use Rattle.walker.specs.Trail.{child_by, children, children_from}
 
 -- one vehicle more
 pub children_more : (E : Query) (J : List Vehicle) (p : Position) (rs : List Row) (v : ℕ) → v < length J →

@@ -1,5 +1,5 @@
 -- What every board keeps, for the code of the walk.
-use Rattle.std.proofs.Common.{◌≡◌, ℕ, zero, suc, ◌+◌, ◌-◌, ◌<◌, ◌≤◌, ◌⊎◌, List, [], length, sym, refl, ap, ◌∙◌, subst, inl, inr, add-one, arith}
+use Rattle.std.proofs.Common.{◌≡◌, ℕ, ◌+◌, ◌<◌, ◌≤◌, List, [], length, sym, refl, ap, ◌∙◌, subst, inl, inr, add-one, arith}
 use Rattle.std.proofs.lemmas.Bool.{cases_lt}
 use Rattle.std.proofs.lemmas.List.{get_or_past}
 use Rattle.hall.specs.Log.{Log, next_step, vehicle_at, begin_of}
@@ -7,13 +7,13 @@ use Rattle.hall.specs.Hall.{hall_log, fleet_of}
 use Rattle.hall.specs.declared.board.Board.{Board}
 use Rattle.hall.specs.declared.vehicle.Vehicle.{Vehicle}
 use Rattle.hall.proofs.Kept.{kept}
-use Rattle.plans.specs.Steps.{fleet, count, IsStep, begun_of}
+use Rattle.plans.specs.Steps.{fleet, IsStep, begun_of}
 use Rattle.plans.specs.Position.{Position as Place, root, free_after}
 use Rattle.plans.proofs.Logs.{LogOk, log_ok}
 use Rattle.plans.proofs.Limits.{root_small}
 use Rattle.plans.proofs.Root.{root_within}
 use Rattle.walker.specs.declared.position.Position.{Position}
-use Rattle.walker.specs.Moves.{vehicle_in, step_in, RecordOk, FleetOk, Sane, BegunWithin}
+use Rattle.walker.specs.Moves.{vehicle_in, RecordOk, FleetOk, Sane, BegunWithin}
 use Rattle.walker.specs.Roots.{Past, stood, stood_upto}
 use Rattle.walker.specs.View.{Tells, RootOf}
 use Rattle.walker.proofs.Views.{tells}

@@ -1,5 +1,5 @@
 -- The lengths left of a vehicle, one step at a time.
-use Rattle.std.proofs.Common.{◌≡◌, ℕ, ◌+◌, ◌<◌, ◌≤◌, List, length, take, drop, sum_by, ap, ◌∙◌, arith, length-take}
+use Rattle.std.proofs.Common.{◌≡◌, ℕ, ◌+◌, ◌<◌, ◌≤◌, length, sum_by, ap, ◌∙◌, arith, length-take}
 use Rattle.std.proofs.lemmas.List.{at_drop_all, get_or-take, length-take-le}
 use Rattle.std.proofs.lemmas.List.Sums.{sum_by-drop_more}
 use Rattle.hall.specs.Log.{blank}

@@ -1,15 +1,14 @@
 -- What the trail holds due, and how a push and a pop change it.
-use Rattle.std.proofs.Common.{◌≡◌, ℕ, zero, suc, ◌+◌, ◌-◌, ◌<◌, ◌≤◌, ◌≢◌, ◌⊎◌, List, [], ◌∷◌, ◌++◌, length, get_or, take, set, Some, None, Option, sym, refl, ap, ◌∙◌, subst, inl, inr, arith, length-set, get_or-set_other, get_or-set_same, take-suc-set}
+use Rattle.std.proofs.Common.{◌≡◌, ℕ, zero, suc, ◌+◌, ◌-◌, ◌<◌, ◌≤◌, ◌≢◌, List, [], ◌∷◌, ◌++◌, length, take, set, Some, None, sym, refl, ap, ◌∙◌, inl, inr, arith, length-set, get_or-set_other, get_or-set_same, take-suc-set}
 use lib.Seq.{take-set-le}
-use Rattle.std.proofs.lemmas.Bool.{cases_eq, cases_lt}
+use Rattle.std.proofs.lemmas.Bool.{cases_eq}
 use Rattle.hall.specs.declared.vehicle.Vehicle.{Vehicle}
-use Rattle.walker.specs.declared.position.Position.{Position}
 use Rattle.plans.specs.declared.row.Row.{Row}
 use Rattle.walker.specs.declared.trail.Move.{Move}
 use Rattle.walker.specs.declared.trail.Frame.{Frame}
 use Rattle.walker.specs.declared.trail.Trail.{Trail}
-use Rattle.walker.specs.Moves.{Query, advanced, row_in, CanMove, steps_left}
-use Rattle.walker.specs.Trail.{Due, child, children_from, Found, no_frame, frame_in, top_of, below, due_upto, due_of, pushed, FrameOk, TrailOk}
+use Rattle.walker.specs.Moves.{Query, advanced, row_in, CanMove}
+use Rattle.walker.specs.Trail.{Due, children_from, Found, no_frame, frame_in, top_of, below, due_upto, due_of, pushed, FrameOk, TrailOk}
 use Rattle.walker.proofs.Steps.{moved_sane, moved_fewer}
 
 module _ (E : Query) (J : List Vehicle) where

@@ -1,5 +1,5 @@
 -- Moves, children and bounds of the code are those of the walk.
-use Rattle.std.proofs.Common.{◌≡◌, ℕ, zero, suc, ◌+◌, ◌-◌, ◌<◌, ◌≤◌, max, Bool, cond, eqb, ltb, ◌⊎◌, List, [], ◌∷◌, ◌++◌, map, length, get_or, take, set, Some, None, Option, sym, refl, ap, ◌∙◌, subst, inl, inr, arith}
+use Rattle.std.proofs.Common.{◌≡◌, ℕ, zero, suc, ◌+◌, ◌-◌, ◌<◌, ◌≤◌, max, cond, eqb, ltb, ◌⊎◌, List, [], ◌∷◌, ◌++◌, map, length, get_or, set, Some, None, Option, sym, refl, ap, ◌∙◌, subst, inl, inr, arith}
 use mathlib.Core.Path.{fun_ext}
 use Rattle.std.proofs.lemmas.Bool.{cases_eq, cases_lt, cond-true, cond-false, lt-ltb, le-ltb}
 use Rattle.std.proofs.lemmas.List.{get_or-set_same, get_or-set_other, append-nil, append_assoc, map-append, get_or-map, length-map, length-take-le, get_or-take}
@@ -19,7 +19,7 @@ use Rattle.plans.specs.Walk.{children as all-children}
 use Rattle.plans.proofs.Base.{put_at, put_other}
 use Rattle.plans.proofs.Scores.{same_score}
 use Rattle.walker.specs.declared.position.Position.{Position}
-use Rattle.walker.specs.Moves.{steps_left, no_vehicle, vehicle_in, step_in, begun_in, next_in, has_step, from_minute, begin_in, row_in, FleetOk}
+use Rattle.walker.specs.Moves.{steps_left, no_vehicle, vehicle_in, begun_in, next_in, has_step, from_minute, begin_in, row_in, FleetOk}
 use Rattle.walker.specs.Bounds.{lengths_left, finish_in, bound_in}
 use Rattle.walker.specs.Trail.{child, child_by, children, children_from}
 use Rattle.walker.specs.View.{table, place, view, view_due, Fits, Tells}

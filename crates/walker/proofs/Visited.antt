@@ -1,5 +1,5 @@
 -- The ways of a visit, on what the walker stands for.
-use Rattle.std.proofs.Common.{◌≡◌, ℕ, zero, suc, ◌+◌, ◌-◌, ◌<◌, ◌≤◌, Bool, true, false, eqb, ◌≢◌, ◌⊎◌, List, [], ◌∷◌, ◌++◌, length, take, set, Some, None, Option, sym, refl, ap, ◌∙◌, inl, inr, arith, length-set, get_or-set_other, get_or-set_same}
+use Rattle.std.proofs.Common.{◌≡◌, ℕ, zero, suc, ◌+◌, ◌-◌, ◌<◌, ◌≤◌, true, false, eqb, ◌≢◌, List, [], ◌++◌, length, take, set, Some, None, Option, sym, refl, ap, ◌∙◌, inl, inr, arith, length-set, get_or-set_other, get_or-set_same}
 use Rattle.std.proofs.lemmas.Bool.{cases_eq, eq-eqb, ne_eqb}
 use Rattle.hall.specs.declared.vehicle.Vehicle.{Vehicle}
 use Rattle.plans.specs.declared.row.Row.{Row}
@@ -10,7 +10,7 @@ use Rattle.walker.specs.declared.walker.Walker.{Walker}
 use Rattle.walker.specs.Moves.{steps_left}
 use Rattle.walker.specs.Bounds.{bound_in}
 use Rattle.walker.specs.Trail.{Due, children_from, no_frame, frame_in, top_of, below, due_upto, TrailOk}
-use Rattle.walker.specs.Visits.{Held, Stage, stage, held_of, held_in, beats, score_held, visit_top, visit_due, visit_once, visits_of, stage_of, WalkerOk}
+use Rattle.walker.specs.Visits.{Held, Stage, stage, held_of, held_in, beats, score_held, visit_top, visit_due, visit_once, visits_of, stage_of}
 use Rattle.walker.proofs.Trails.{below_same}
 
 score_of_held : {S : Type 0} (b : Option S) (rs : List Row) → score_held (held_of b rs) ≡ b

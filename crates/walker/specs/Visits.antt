@@ -3,7 +3,6 @@ use Rattle.std.specs.Prelude.{◌≡◌, ℕ, zero, suc, ◌+◌, ◌≤◌, Boo
 use Rattle.hall.specs.declared.vehicle.Vehicle.{Vehicle}
 use Rattle.plans.specs.declared.row.Row.{Row}
 use Rattle.plans.specs.Meanings.{Hours, Goal}
-use Rattle.walker.specs.declared.position.Position.{Position}
 use Rattle.walker.specs.declared.walker.Walker.{Walker}
 use Rattle.walker.specs.Moves.{steps_left}
 use Rattle.walker.specs.Bounds.{bound_in}

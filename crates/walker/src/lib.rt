@@ -3,6 +3,5 @@
 
 mod position;
 mod root;
-pub mod search;
 mod trail;
 mod walker;

@@ -1,4 +1,4 @@
-use Rattle.std.proofs.Common.{◌≡◌, ◌≤◌, length, sym, ap, ◌∙◌, subst, arith}
+use Rattle.std.proofs.Common.{◌≡◌, length, sym, ap, ◌∙◌, subst, arith}
 use Rattle.hall.specs.Hall.{hall_log, fleet_of}
 use Rattle.walker.specs.Roots.{stood_upto}
 use Rattle.walker.specs.View.{RootOf}

@@ -1,4 +1,4 @@
-use Rattle.std.proofs.Common.{◌≡◌, sym, ap, ◌∙◌, rules}
+use Rattle.std.proofs.Common.{sym, ap, ◌∙◌, rules}
 use Rattle.plans.specs.Meanings.{hours_of, goal_of}
 use Rattle.walker.specs.Visits.{beats}
 use Rattle.walker.proofs.Visited.{step_opened, opened_ok, leaf_below}
@@ -13,7 +13,7 @@ returns-then-d-walker g c =
     let G = goal_of (g.G.Goal.starting m) (g.G.Goal.adding m) (g.G.Goal.no_worse m) in
     let ok = c.requires.1.0.trail in
     let some = c.requires.1.1.0 in
-    let b = ap (beats (g.G.Goal.no_worse m) w.best) (sym c.bound-bound.ensures.value) ∙ sym c.if-is-beaten.ensures.value in
+    let b = ap (beats (g.G.Goal.no_worse m) w.best) (sym c.bound-bound.ensures.value) ∙ sym c.if-is_beaten.ensures.value in
     record {
       ok = record { trail = opened_ok J w.trail some ok; plan_sized = c.requires.1.0.plan_sized; fits = c.requires.1.0.fits };
       steps = search rules;

@@ -1,4 +1,4 @@
-use Rattle.std.proofs.Common.{◌≡◌, ◌-◌, sym, ◌∙◌, arith}
+use Rattle.std.proofs.Common.{◌-◌, sym, ◌∙◌, arith}
 use Rattle.plans.specs.Meanings.{hours_of, goal_of}
 use Rattle.walker.proofs.Visited.{visits_end, visits_more}
 use Rattle.walker.proofs.walker.go_on.Goals as goal

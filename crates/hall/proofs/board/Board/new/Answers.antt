@@ -1,4 +1,4 @@
-use Rattle.std.proofs.Common.{refl, rules}
+use Rattle.std.proofs.Common.{refl}
 use Rattle.hall.proofs.HallRuns.{kept_from_arguments, runs_as_composed}
 use Rattle.hall.proofs.Keeping.{lasts_empty}
 use Rattle.hall.proofs.board.Board.new.Goals as goal

@@ -1,4 +1,4 @@
-use Rattle.std.proofs.Common.{◌+◌, refl, arith, rules}
+use Rattle.std.proofs.Common.{◌+◌, refl, arith}
 use Rattle.hall.specs.Hall.{hall_log}
 use Rattle.hall.specs.Rules.{pass}
 use Rattle.hall.proofs.Answering.{accepted}

@@ -1,4 +1,4 @@
-use Rattle.std.proofs.Common.{◌≡◌, ◌+◌, List, ◌++◌, sym, ap, ◌∙◌}
+use Rattle.std.proofs.Common.{◌+◌, ◌++◌, sym, ap, ◌∙◌}
 use Rattle.plans.specs.Meanings.{hours_of}
 use Rattle.walker.specs.Trail.{child_by, children_from}
 use Rattle.walker.proofs.Queries.{answer_ends}
@@ -26,5 +26,5 @@ loop-v-preserved g c =
     let J = c.args.fleet.now in
     let p = c.args.self.now.at in
     let v = c.loop-v.v in
-    let e = c.in-default.ensures.value in
+    let e = c.in_default.ensures.value in
     λ rs. c.loop-v.invariant rs ∙ children_more E J p rs v c.loop-v-test.true ∙ ap (λ o. child_by J p rs v o ++ children_from E J p rs (v + 1)) (sym e)

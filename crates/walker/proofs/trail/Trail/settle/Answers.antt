@@ -1,4 +1,4 @@
-use Rattle.std.proofs.Common.{◌≡◌, ◌-◌, sym, ap, ◌∙◌, subst, arith}
+use Rattle.std.proofs.Common.{◌-◌, sym, ap, ◌∙◌, subst, arith}
 use Rattle.plans.specs.Meanings.{hours_of}
 use Rattle.walker.specs.declared.trail.Trail.{Trail}
 use Rattle.walker.specs.Trail.{TrailOk, due_of}
@@ -36,5 +36,5 @@ loop-self-preserved g c =
     let some = c.loop-self-test.true in (
       popped_ok J s (s.depth - 1) (omega arith) c.loop-self.invariant.0,
       c.loop-self.invariant.1,
-      sym (below_popped E J s some c.in-default.ensures.found) ∙ c.loop-self.invariant.2,
+      sym (below_popped E J s some c.in_default.ensures.found) ∙ c.loop-self.invariant.2,
     )
