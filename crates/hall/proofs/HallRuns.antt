@@ -2,7 +2,7 @@
 use Rattle.std.proofs.Common.{◌≡◌, ℕ, not, List, [], ◌∷◌, map, Ok, Err, Result, sym, refl, ap, ◌∙◌, subst, inl, inr, ⊎_elim, arith}
 use mathlib.Core.Path.{fun_ext}
 use Rattle.std.proofs.lemmas.List.{length-map}
-use Rattle.std.specs.List.{AllByRecursion as All}
+use Rattle.std.specs.List.{AllByRecursion}
 use Rattle.hall.specs.declared.board.Board.{Board}
 use Rattle.hall.specs.declared.fault.BoardFault.{BoardFault}
 use Rattle.hall.specs.declared.step.Progress.TheVariants.{Waiting, Running, Done}
@@ -53,7 +53,7 @@ fresh_call b b' (begin v) r h e f = absurd e
 fresh_call b b' (finish v) r h e f = absurd e
 fresh_call b b' (pass m) r h e f = absurd e
 
-fresh_left : (b : Board) (es : List Made) → Led b es → All (λ m. Enters m.call) es → Fresh (hall_log b) → Fresh (hall_log (left b es))
+fresh_left : (b : Board) (es : List Made) → Led b es → AllByRecursion (λ m. Enters m.call) es → Fresh (hall_log b) → Fresh (hall_log (left b es))
 fresh_left b [] h e f = f
 fresh_left b (m ∷ es) h e f =
     fresh_left m.board es h.1 e.1 (fresh_call b m.board m.call m.answer h.0 e.0 f)
@@ -105,7 +105,7 @@ step_of b b' (pass t) n h w =
 
 -- accepted calls, one after another, are a run
 runs_on : (jobs : ℕ → List Step) (b : Board) (ms : List Made) → jobs_of (hall_log b) ≡ jobs → Led b ms
-    → All (λ m. Works m.call × Accepted m) ms → Run (hall_automaton jobs) (config_of (hall_log b)) (map run_step ms)
+    → AllByRecursion (λ m. Works m.call × Accepted m) ms → Run (hall_automaton jobs) (config_of (hall_log b)) (map run_step ms)
 runs_on jobs b [] j h e = tt
 runs_on jobs b (m ∷ ms) j h e =
     let n = e.0.1.0 in

@@ -1,6 +1,6 @@
 -- Series of calls on a board, and the laws over them.
 use Rattle.std.specs.Prelude.{◌≡◌, ℕ, List, [], ◌∷◌, map, Ok, Result}
-use Rattle.std.specs.List.{AllByRecursion as All}
+use Rattle.std.specs.List.{AllByRecursion}
 use Rattle.hall.specs.declared.board.Board.{Board}
 use Rattle.hall.specs.declared.fault.BoardFault.{BoardFault}
 use Rattle.hall.specs.Automaton.{starting, Run}
@@ -65,7 +65,7 @@ RunFrom b x ms = Run (hall_automaton (jobs_of (hall_log b))) x (map run_step ms)
 -- begin, finish and pass that are all accepted: from there, the composition makes the same run
 abbrev pub RunsAsComposed : Board → Type 0
 RunsAsComposed b =
-    (es ms : List Made) → Led b es → All (λ m. Enters m.call) es
-    → Led (left b es) ms → All (λ m. Works m.call × Accepted m) ms
+    (es ms : List Made) → Led b es → AllByRecursion (λ m. Enters m.call) es
+    → Led (left b es) ms → AllByRecursion (λ m. Works m.call × Accepted m) ms
     → (config_of (hall_log (left b es)) ≡ starting (hall_automaton (jobs_of (hall_log (left b es)))))
     × RunFrom (left b es) (starting (hall_automaton (jobs_of (hall_log (left b es))))) ms

@@ -1,7 +1,7 @@
 -- The lines of faults and entries, and what printing them answers.
 use Rattle.std.proofs.Common.{◌≡◌, ℕ, ◌*◌, ◌^◌, ◌<◌, ◌≤◌, List, [], ◌∷◌, length, IsErrAnd, Ok, Err, Result, ap, ◌∙◌, arith}
 use Rattle.std.proofs.lemmas.List.{length-append}
-use Rattle.std.specs.List.{flat_map, AllByRecursion as All}
+use Rattle.std.specs.List.{flat_map, AllByRecursion}
 use Rattle.std.proofs.lemmas.Result.{err_from_is_err_and}
 use Rattle.text.proofs.Texts.{cell_short, length-line_text}
 use Rattle.text.specs.Cells.{cell_text, cell_field, line_text}
@@ -51,7 +51,7 @@ fits_short : (c : Cell) → Fits c → length (cell_text c) ≤ 20
 fits_short (Number n) h = cell_short n h
 fits_short (Symbol b) h = omega arith
 
-joined_short : (cs : List Cell) → All Fits cs → length (flat_map cell_field cs) ≤ 21 * length cs
+joined_short : (cs : List Cell) → AllByRecursion Fits cs → length (flat_map cell_field cs) ≤ 21 * length cs
 joined_short [] h = omega arith
 joined_short (c ∷ cs) h =
     omega (arith, length-append (cell_field c) (flat_map cell_field cs), fits_short c h.0, joined_short cs h.1)

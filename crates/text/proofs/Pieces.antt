@@ -2,7 +2,7 @@
 use Rattle.std.proofs.Common.{◌≡◌, ℕ, zero, suc, ◌<◌, Bool, true, false, cond, eqb, ◌⊎◌, List, [], ◌∷◌, ◌++◌, length, sym, refl, ap, ◌∙◌, inl, inr, arith}
 use Rattle.std.proofs.lemmas.List.{length_push}
 use Rattle.std.proofs.lemmas.Bool.{eqb-true, eqb-false}
-use Rattle.std.specs.List.{flat_map, join_with_byte, AllByRecursion as All}
+use Rattle.std.specs.List.{flat_map, join_with_byte, AllByRecursion}
 use Rattle.std.specs.Str.Iter.{LacksByte}
 use Rattle.text.specs.Split.{on_first, parted, ended, closed, Parts, Ends}
 use Rattle.text.proofs.Splits.{parted_some}
@@ -15,7 +15,7 @@ more_lacks b x p ne l zero h e = ne e
 more_lacks b x p ne l (suc k) h e = l k (omega arith) e
 
 -- a byte other than b goes in front of the first piece
-first_lacks : (b x : ℕ) (ps : List (List ℕ)) → (x ≡ b → ⊥) → All (LacksByte b) ps → All (LacksByte b) (on_first x ps)
+first_lacks : (b x : ℕ) (ps : List (List ℕ)) → (x ≡ b → ⊥) → AllByRecursion (LacksByte b) ps → AllByRecursion (LacksByte b) (on_first x ps)
 first_lacks b x [] ne a = (more_lacks b x [] ne (none_lacks b), tt)
 first_lacks b x (p ∷ ps) ne a = (more_lacks b x p ne a.0, a.1)
 
@@ -28,7 +28,7 @@ rejoined_more : (b : ℕ) (ps : List (List ℕ)) → 0 < length ps → join_with
 rejoined_more b [] h = absurd (omega arith)
 rejoined_more b (p ∷ ps) h = refl
 
-clean_cut : (b x : ℕ) (ps : List (List ℕ)) (t : Bool) → eqb x b ≡ t → All (LacksByte b) ps → All (LacksByte b) (cond t ([] ∷ ps) (on_first x ps))
+clean_cut : (b x : ℕ) (ps : List (List ℕ)) (t : Bool) → eqb x b ≡ t → AllByRecursion (LacksByte b) ps → AllByRecursion (LacksByte b) (cond t ([] ∷ ps) (on_first x ps))
 clean_cut b x ps true e a = (none_lacks b, a)
 clean_cut b x ps false e a = first_lacks b x ps (eqb-false x b e) a
 

@@ -1,6 +1,6 @@
 -- Bytes cut at a byte b.
 use Rattle.std.specs.Prelude.{◌≡◌, ℕ, suc, cond, ◌⊎◌, List, [], ◌∷◌, ◌++◌, ◌==◌}
-use Rattle.std.specs.List.{flat_map, join_with_byte, AllByRecursion as All}
+use Rattle.std.specs.List.{flat_map, join_with_byte, AllByRecursion}
 use Rattle.std.specs.Str.Iter.{LacksByte}
 
 -- the bytes before the first b: all where there is none
@@ -31,7 +31,7 @@ ended b (x ∷ xs) = cond (x == b) ([] ∷ ended b xs) (on_first x (ended b xs))
 -- what parting means: put together again with b between them, the pieces are the bytes, and none of them has a b
 pub record Parts (b : ℕ) (xs : List ℕ) : Type 0 where
   pub whole : join_with_byte b (parted b xs) ≡ xs
-  pub clean : All (LacksByte b) (parted b xs)
+  pub clean : AllByRecursion (LacksByte b) (parted b xs)
 
 -- a piece with its b
 abbrev pub closed : ℕ → List ℕ → List ℕ
@@ -41,4 +41,4 @@ closed b p = p ++ (b ∷ [])
 -- them has a b
 pub record Ends (b : ℕ) (xs : List ℕ) : Type 0 where
   pub whole : (flat_map (closed b) (ended b xs) ≡ xs) ⊎ (flat_map (closed b) (ended b xs) ≡ xs ++ (b ∷ []))
-  pub clean : All (LacksByte b) (ended b xs)
+  pub clean : AllByRecursion (LacksByte b) (ended b xs)

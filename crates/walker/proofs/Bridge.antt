@@ -2,7 +2,7 @@
 use Rattle.std.proofs.Common.{◌≡◌, ℕ, zero, suc, ◌+◌, Bool, true, false, cond, List, [], ◌∷◌, ◌++◌, map, Some, None, Option, sym, refl, ap, ◌∙◌, subst, add-one, arith, length-set}
 use Rattle.std.proofs.lemmas.List.{map-append}
 use Rattle.std.proofs.ByRecursion.{All-append}
-use Rattle.std.specs.List.{AllByRecursion as All}
+use Rattle.std.specs.List.{AllByRecursion}
 use Rattle.hall.specs.Log.{Log}
 use Rattle.hall.specs.declared.vehicle.Vehicle.{Vehicle}
 use Rattle.plans.specs.declared.row.Row.{Row}
@@ -30,11 +30,11 @@ advanced_fits J p v b f = record {
 abbrev Fit : Due → Type 0
 Fit d = Fits d.at
 
-children_fit : (E : Query) (J : List Vehicle) (p : Position) (rs : List Row) → Fits p → (m v : ℕ) → All Fit (children E J p rs v m)
+children_fit : (E : Query) (J : List Vehicle) (p : Position) (rs : List Row) → Fits p → (m v : ℕ) → AllByRecursion Fit (children E J p rs v m)
 children_fit E J p rs f zero v = tt
 children_fit E J p rs f (suc m) v = All-append Fit (child_by J p rs v (begin_in E J p v)) _ (by (begin_in E J p v)) (children_fit E J p rs f m (v + 1))
   where
-    by : (o : Option ℕ) → All Fit (child_by J p rs v o)
+    by : (o : Option ℕ) → AllByRecursion Fit (child_by J p rs v o)
     by None = tt
     by (Some b) = (advanced_fits J p v b f, tt)
 
@@ -51,7 +51,7 @@ module _ {S : Type 0} (H : Hours) (G : Goal S) (L : Log) (J : List Vehicle) (t :
   recorded d = ap (λ (x : S). Some (record { score = x; rows = d.rows })) (bound_is L J t d.at d.rows G)
 
   -- one visit of the first due position
-  visit_top_sees : (d : Due) (ds : List Due) (h : Option (Held S)) (b : Option Place) (n : ℕ) → h ≡ map_option (held_at G L) b → All Fit (d ∷ ds)
+  visit_top_sees : (d : Due) (ds : List Due) (h : Option (Held S)) (b : Option Place) (n : ℕ) → h ≡ map_option (held_at G L) b → AllByRecursion Fit (d ∷ ds)
       → Sees G L (visit_top H G J d ds h n) (visit_first H G L (view_due d ∷ map view_due ds) b n)
   unfolding visit_first effect map_option
   visit_top_sees d ds h b n e (f, fs) = at (dropped G L b (view_due d)) (is_leaf L (view_due d)) _ _ (beaten_is h b e d) (sym (leaf_is L J t d.at d.rows))

@@ -1,6 +1,6 @@
 -- The code's walk stands for a state of the walk over positions.
 use Rattle.std.specs.Prelude.{◌≡◌, map}
-use Rattle.std.specs.List.{AllByRecursion as All}
+use Rattle.std.specs.List.{AllByRecursion}
 use Rattle.hall.specs.Log.{Log}
 use Rattle.plans.specs.Meanings.{Goal}
 use Rattle.plans.specs.Position.{Position as Place, map_option, bound}
@@ -18,4 +18,4 @@ pub record Sees {S : Type 0} (G : Goal S) (L : Log) (s : Stage S) (w : State) : 
   pub due : map view_due s.due ≡ w.due
   pub best : s.best ≡ map_option (held_at G L) w.best
   pub made : s.made ≡ w.visits
-  pub fit : All (λ (d : Due). Fits d.at) s.due
+  pub fit : AllByRecursion (λ (d : Due). Fits d.at) s.due
