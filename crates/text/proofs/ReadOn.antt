@@ -68,7 +68,7 @@ fits i n d s h l = omega (arith, pow_top (i + 1) (n * 10 + d) (omega arith) (pow
 pub shape : (bs : List ℕ) → (length bs ≡ 0 → ⊥) → length bs ≤ 7 → ((get_or bs 0 0 ≡ 48) × (length bs ≤ 1)) ⊎ (get_or bs 0 0 ≡ 48 → ⊥) → number_shape bs ≡ true
 shape bs a b h = grind (arith, nat_tests)
 
--- `value 10` reads digits
+-- `digits_value 10` reads digits
 own : IsNumeralModel (λ ds. all_ascii_digits ds ≡ true) (digits_value 10)
 own = numerals_by_value _ tells_all_ascii_digits
 

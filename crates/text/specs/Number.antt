@@ -18,7 +18,7 @@ number_shape bs = (nat_le 1 (length bs) && nat_le (length bs) 7) && (length bs =
 abbrev pub is_number : List ℕ → Bool
 is_number bs = number_shape bs && all_ascii_digits bs
 
--- the number that the bytes write; `value 10` is the decimal value of digits, as for `str::parse`
+-- the number that the bytes write; `digits_value 10` is the decimal value of digits, as for `str::parse`
 abbrev pub number_of : List ℕ → Result ℕ NumberFault
 number_of bs = cond (is_number bs) (Ok (digits_value 10 bs)) (Err Malformed)
 

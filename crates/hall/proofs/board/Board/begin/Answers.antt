@@ -1,11 +1,11 @@
-use Rattle.std.proofs.Common.{◌≡◌, ◌<◌, ◌≤◌, length, sym, ap, subst, ◌∙◌, arith, rules}
+use Rattle.std.proofs.Common.{◌<◌, length, ap, ◌∙◌, arith, rules}
 use Rattle.std.proofs.lemmas.List.{length-set}
 use Rattle.hall.specs.Hall.{hall_log}
 use Rattle.hall.specs.Job.{Begins, config_of}
 use Rattle.hall.specs.Rules.{begin, begin_answer}
 use Rattle.hall.proofs.Answering.{accepted, refused_as, passed_on, exactly_none}
 use Rattle.hall.proofs.BeginSteps.{only_begins}
-use Rattle.hall.proofs.Enters.{each_set}
+use Rattle.hall.proofs.Enters.{counted_set, filled_set}
 use Rattle.hall.proofs.Kept.{kept}
 use Rattle.hall.proofs.Marks.{begin_fits, begin_log_is, begin_lasts, begin_takes}
 use Rattle.hall.proofs.board.Board.begin.Goals as goal
@@ -57,11 +57,11 @@ invariant_of-self-clause-table c = length-set c.args.self.now.vehicles c.args.ve
 pub invariant_of-self-clause-counted : goal.invariant_of-self-clause-counted
 invariant_of-self-clause-counted c =
     let b = c.args.self.now in
-    let lt : c.args.vehicle < length b.vehicles = omega (arith, (begin_fits b c.args.vehicle c.in_ok-next.next c.in_ok-next.ensures).0, b.table) in
-    each_set (λ w. w.len ≤ 8) b.vehicles c.args.vehicle c.start.new.self b.counted (subst (λ n. n ≤ 8) (sym c.start.ensures.len) (b.counted c.args.vehicle _ lt))
+    counted_set b.vehicles c.args.vehicle _ c.start.new.self b.counted
+    (omega (arith, (begin_fits b c.args.vehicle c.in_ok-next.next c.in_ok-next.ensures).0, b.table)) c.start.ensures.len
 
 pub invariant_of-self-clause-filled : goal.invariant_of-self-clause-filled
 invariant_of-self-clause-filled c =
     let b = c.args.self.now in
-    let lt : c.args.vehicle < length b.vehicles = omega (arith, (begin_fits b c.args.vehicle c.in_ok-next.next c.in_ok-next.ensures).0, b.table) in
-    each_set (λ w. length w.steps ≡ 8) b.vehicles c.args.vehicle c.start.new.self b.filled (ap length c.start.ensures.steps ∙ length-set _ _ _ ∙ b.filled c.args.vehicle _ lt)
+    filled_set b.vehicles c.args.vehicle _ c.start.new.self b.filled
+    (omega (arith, (begin_fits b c.args.vehicle c.in_ok-next.next c.in_ok-next.ensures).0, b.table)) (ap length c.start.ensures.steps ∙ length-set _ _ _)
