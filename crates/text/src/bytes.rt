@@ -10,22 +10,12 @@ pub fn find(s: &[u8], from: usize, b: u8) -> usize
     ensures parts { Parts b s.now }
     ensures ends { Ends b s.now }
 {
-    let mut i = from;
-    while i < s.len() && s[i] != b {
-        i += 1;
-    }
-    i
+    from + s.iter().skip(from).take_while(|x| **x != b).count()
 }
 
 // How many bytes of `s` are `b`.
 pub fn count(s: &[u8], b: u8) -> usize
     ensures { result ≡ tally b s.now }
 {
-    let mut n = 0;
-    for x in s {
-        if *x == b {
-            n += 1;
-        }
-    }
-    n
+    s.iter().filter(|x| **x == b).count()
 }

@@ -1,23 +1,21 @@
-use Rattle.std.proofs.Common.{arith}
-use Rattle.text.proofs.Splits.{before_hit, before_miss, before_none}
+use Rattle.std.proofs.Common.{◌+◌, not, eqb, ap, rules, tests}
+use Rattle.std.proofs.lemmas.Iterator.{YieldsList-from_slice}
+use Rattle.std.proofs.lemmas.Iterator.Adapters.{YieldsList-from_skip}
+use Rattle.std.proofs.lemmas.Iterator.Consumers.{YieldsList-at, count_from_yields_List}
+use Rattle.std.proofs.lemmas.Iterator.Search.{YieldsList-from_take_while}
 use Rattle.text.proofs.Pieces.{parts, ends}
 use Rattle.text.proofs.bytes.find.Goals as goal
 
-pub loop-i-preserved : goal.loop-i-preserved
-loop-i-preserved c = (λ h. omega arith, omega (arith, before_miss c.args.b c.args.s.now c.loop-i.i (omega arith) c.if-s-i.true))
+pub returns-clause-is : goal.returns-clause-is
+returns-clause-is c =
+    ap (λ n. c.args.from + n)
+    (count_from_yields_List c.take_while.result c.count.result c.count.ensures.ran
+    (YieldsList-from_take_while _ (λ x. not (eqb x c.args.b))
+    (YieldsList-at c.take_while.ensures.source (YieldsList-from_skip c.args.from (YieldsList-at c.skip.ensures.source (YieldsList-from_slice c.args.s.now cc)) cc))
+    c.take_while.ensures.closure c.take_while.ensures.done (λ x r q k. search (rules, tests))))
 
-pub returns-else-s-i : goal.returns-else-s-i
-returns-else-s-i c = record {
-  is = omega (arith, before_hit c.args.b c.args.s.now c.loop-i.i (omega arith) c.if-s-i.false);
-  within = c.loop-i.invariant.0;
-  parts = parts c.args.b c.args.s.now;
-  ends = ends c.args.b c.args.s.now;
-}
+pub returns-clause-parts : goal.returns-clause-parts
+returns-clause-parts c = parts c.args.b c.args.s.now
 
-pub returns-after-loop-i : goal.returns-after-loop-i
-returns-after-loop-i c = record {
-  is = omega (arith, before_none c.args.b c.args.s.now c.loop-i.i (omega arith));
-  within = c.loop-i.invariant.0;
-  parts = parts c.args.b c.args.s.now;
-  ends = ends c.args.b c.args.s.now;
-}
+pub returns-clause-ends : goal.returns-clause-ends
+returns-clause-ends c = ends c.args.b c.args.s.now
