@@ -61,16 +61,14 @@ before_less b xs h =
 -- the first piece that b ends, and those behind the b
 pub ended_more : (b : ℕ) (xs : List ℕ) → 0 < length xs → ended b xs ≡ before b xs ∷ ended b (drop (suc (length (before b xs))) xs)
 ended_more b [] h = absurd (omega arith)
-ended_more b (x ∷ xs) h =
-    let n = position_or_len (λ y. eqb y b) xs in
-    elim (eqb x b) as (λ t. let p = take (cond (not t) (suc n) 0) (x ∷ xs) in cond t ([] ∷ ended b xs) (onto_first x (ended b xs)) ≡ p ∷ ended b (drop (length p) xs)) [
+ended_more b (x ∷ []) h =
+    elim (eqb x b) as (λ t. let p = take (cond (not t) 1 0) (x ∷ []) in cond t ([] ∷ []) (onto_first x []) ≡ p ∷ ended b (drop (length p) [])) [ true ↦ refl | false ↦ refl ]
+ended_more b (x ∷ (y ∷ xs)) h =
+    let n = position_or_len (λ z. eqb z b) (y ∷ xs) in
+    elim (eqb x b) as (λ t. let p = take (cond (not t) (suc n) 0) (x ∷ (y ∷ xs)) in cond t ([] ∷ ended b (y ∷ xs)) (onto_first x (ended b (y ∷ xs))) ≡ p ∷ ended b (drop (length p) (y ∷ xs))) [
       | true ↦ refl
-      | false ↦ onto b x xs
+      | false ↦ ap (onto_first x) (ended_more b (y ∷ xs) (omega arith))
     ]
-  where
-    onto : (b x : ℕ) (xs : List ℕ) → onto_first x (ended b xs) ≡ (x ∷ before b xs) ∷ ended b (drop (suc (length (before b xs))) xs)
-    onto b x [] = refl
-    onto b x (y ∷ ys) = ap (onto_first x) (ended_more b (y ∷ ys) (omega arith))
 
 -- the piece of xs that begins at `at`, with the index `end` where it ends, as `find` gives it
 module _ (b : ℕ) (xs : List ℕ) (at end : ℕ) where
