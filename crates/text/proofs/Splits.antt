@@ -1,9 +1,9 @@
 -- Laws of `before`, `tally`, `parted` and `ended`.
-use Rattle.std.proofs.Common.{◌≡◌, ℕ, suc, ◌+◌, ◌-◌, ◌<◌, ◌≤◌, Bool, true, false, cond, not, eqb, List, [], ◌∷◌, length, take, drop, sym, refl, ap, ◌∙◌, ⊎_elim, add-one, arith}
+use Rattle.std.proofs.Common.{◌≡◌, ℕ, suc, ◌+◌, ◌-◌, ◌<◌, ◌≤◌, true, false, cond, not, eqb, List, [], ◌∷◌, length, take, drop, sym, refl, ap, ◌∙◌, ⊎_elim, add-one, arith}
 use Rattle.std.proofs.lemmas.List.{length-drop, drop-drop, take_all}
 use Rattle.std.proofs.lemmas.List.Folds.{length-prefix_len}
 use Rattle.std.proofs.lemmas.List.Splits.{slice_split_none, slice_split_first, length-slice_split}
-use Rattle.std.proofs.lemmas.List.Sums.{prefix_len-le-length, fails_before_first}
+use Rattle.std.proofs.lemmas.List.Sums.{prefix_len-le-length, fails_before_first, take_while-cons}
 use Rattle.std.proofs.lemmas.Bool.{cases_lt}
 use Rattle.std.specs.List.{position_or_len, onto_first}
 use Rattle.text.specs.Split.{before, tally, parted, ended}
@@ -58,17 +58,22 @@ before_less b xs h =
     absurd (omega (arith, ap length (parted_last b xs e), length-parted b xs)))
     (cases_lt (length (before b xs)) (length xs))
 
+before_cons : (b x : ℕ) (xs : List ℕ) → before b (x ∷ xs) ≡ cond (eqb x b) [] (x ∷ before b xs)
+before_cons b x xs =
+    take_while-cons (λ y. not (eqb y b)) x xs ∙ elim (eqb x b) as (λ t. cond (not t) (x ∷ before b xs) [] ≡ cond t [] (x ∷ before b xs)) [ true ↦ refl | false ↦ refl ]
+
 -- the first piece that b ends, and those behind the b
 pub ended_more : (b : ℕ) (xs : List ℕ) → 0 < length xs → ended b xs ≡ before b xs ∷ ended b (drop (suc (length (before b xs))) xs)
 ended_more b [] h = absurd (omega arith)
 ended_more b (x ∷ []) h =
-    elim (eqb x b) as (λ t. let p = take (cond (not t) 1 0) (x ∷ []) in cond t ([] ∷ []) (onto_first x []) ≡ p ∷ ended b (drop (length p) [])) [ true ↦ refl | false ↦ refl ]
+    rw (before_cons b x [])
+    (elim (eqb x b) as (λ t. cond t ([] ∷ []) (onto_first x []) ≡ cond t [] (x ∷ []) ∷ ended b (drop (length (cond t [] (x ∷ []))) [])) [ true ↦ refl | false ↦ refl ])
 ended_more b (x ∷ (y ∷ xs)) h =
-    let n = position_or_len (λ z. eqb z b) (y ∷ xs) in
-    elim (eqb x b) as (λ t. let p = take (cond (not t) (suc n) 0) (x ∷ (y ∷ xs)) in cond t ([] ∷ ended b (y ∷ xs)) (onto_first x (ended b (y ∷ xs))) ≡ p ∷ ended b (drop (length p) (y ∷ xs))) [
+    rw (before_cons b x (y ∷ xs))
+    (elim (eqb x b) as (λ t. cond t ([] ∷ ended b (y ∷ xs)) (onto_first x (ended b (y ∷ xs))) ≡ cond t [] (x ∷ before b (y ∷ xs)) ∷ ended b (drop (length (cond t [] (x ∷ before b (y ∷ xs)))) (y ∷ xs))) [
       | true ↦ refl
       | false ↦ ap (onto_first x) (ended_more b (y ∷ xs) (omega arith))
-    ]
+    ])
 
 -- the piece of xs that begins at `at`, with the index `end` where it ends, as `find` gives it
 module _ (b : ℕ) (xs : List ℕ) (at end : ℕ) where
