@@ -64,8 +64,11 @@ pow_top i n s h = let top : 10 ^ i ≤ 10 ^ 7 = pow-le-pow_right (omega arith) s
 pub fits : (i n d : ℕ) → i < 7 → n < 10 ^ i → d < 10 → n * 10 + d < 2 ^ 32
 fits i n d s h l = omega (arith, pow_top (i + 1) (n * 10 + d) (omega arith) (pow_more i n d h l))
 
--- the tests before the loop give the shape
-pub shape : (bs : List ℕ) → (length bs ≡ 0 → ⊥) → length bs ≤ 7 → ((get_or bs 0 0 ≡ 48) × (length bs ≤ 1)) ⊎ (get_or bs 0 0 ≡ 48 → ⊥) → number_shape bs ≡ true
+-- what has the shape of a number is short
+pub shape_short : (bs : List ℕ) → number_shape bs ≡ true → length bs ≤ 7
+shape_short bs h = grind (arith, nat_tests)
+
+shape : (bs : List ℕ) → (length bs ≡ 0 → ⊥) → length bs ≤ 7 → ((get_or bs 0 0 ≡ 48) × (length bs ≤ 1)) ⊎ (get_or bs 0 0 ≡ 48 → ⊥) → number_shape bs ≡ true
 shape bs a b h = grind (arith, nat_tests)
 
 -- `digits_value 10` reads digits
