@@ -1,4 +1,5 @@
 pub mod Splits
+pub mod Searches
 pub mod Pieces
 pub mod ReadOn
 pub mod Puts

@@ -2,20 +2,24 @@
 ghost use Rattle.std.specs.Prelude.{◌≡◌, ◌+◌, ◌≤◌, length, drop};
 ghost use Rattle.text.specs.Split.{before, tally, Parts, Ends};
 
+use memchr::{memchr, memchr_iter};
+
 // The index of the first `b` at `from` or after; the length where there is none, and `from` past it. It is what cuts `s`
-// into the pieces that `b` parts, or ends.
+// into the pieces that `b` parts, or ends. It is a number and no `Option`: where no `b` is left, the last piece ends at
+// the end of the bytes.
 pub fn find(s: &[u8], from: usize, b: u8) -> usize
     ensures is { result ≡ from + length (before b (drop from s.now)) }
     ensures within { from ≤ length s.now → result ≤ length s.now }
     ensures parts { Parts b s.now }
     ensures ends { Ends b s.now }
 {
-    from + s.iter().skip(from).take_while(|x| **x != b).count()
+    let rest = &s[from.min(s.len())..];
+    from + memchr(b, rest).unwrap_or(rest.len())
 }
 
 // How many bytes of `s` are `b`.
 pub fn count(s: &[u8], b: u8) -> usize
     ensures { result ≡ tally b s.now }
 {
-    s.iter().filter(|x| **x == b).count()
+    memchr_iter(b, s).count()
 }

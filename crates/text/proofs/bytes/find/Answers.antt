@@ -1,18 +1,15 @@
-use Rattle.std.proofs.Common.{◌+◌, not, eqb, ap, rules, tests}
-use Rattle.std.proofs.lemmas.Iterator.{YieldsList-from_slice}
-use Rattle.std.proofs.lemmas.Iterator.Adapters.{YieldsList-from_skip}
-use Rattle.std.proofs.lemmas.Iterator.Consumers.{YieldsList-at, count_from_yields_List}
-use Rattle.std.proofs.lemmas.Iterator.Search.{YieldsList-from_take_while}
+use Rattle.std.proofs.Common.{◌+◌, length, drop, ap, ◌∙◌}
+use Rattle.std.proofs.lemmas.List.{take_rest, drop_min}
+use Rattle.text.specs.Split.{before}
 use Rattle.text.proofs.Pieces.{parts, ends}
+use Rattle.text.proofs.Searches.{first_place}
 use Rattle.text.proofs.bytes.find.Goals as goal
 
 pub returns-clause-is : goal.returns-clause-is
 returns-clause-is c =
-    ap (λ n. c.args.from + n)
-    (count_from_yields_List c.take_while.result c.count.result c.count.ensures.ran
-    (YieldsList-from_take_while _ (λ x. not (eqb x c.args.b))
-    (YieldsList-at c.take_while.ensures.source (YieldsList-from_skip c.args.from (YieldsList-at c.skip.ensures.source (YieldsList-from_slice c.args.s.now cc)) cc))
-    c.take_while.ensures.closure c.take_while.ensures.done (λ x r q k. search (rules, tests))))
+    let s = c.args.s.now in
+    let rest = take_rest s c.min.result ∙ ap (λ i. drop i s) c.min.ensures ∙ drop_min c.args.from s in
+    ap (λ n. c.args.from + n) (c.unwrap_or.ensures ∙ first_place c.args.b _ c.memchr.result c.memchr.ensures ∙ ap (λ l. length (before c.args.b l)) rest)
 
 pub returns-clause-parts : goal.returns-clause-parts
 returns-clause-parts c = parts c.args.b c.args.s.now
