@@ -1,8 +1,9 @@
 -- A loop that reads digits, and what it reads of a printed number.
-use Rattle.std.proofs.Common.{◌≡◌, ℕ, ◌+◌, ◌-◌, ◌*◌, ◌^◌, ◌<◌, ◌≤◌, Bool, true, false, cond, ◌&&◌, ◌⊎◌, List, [], ◌∷◌, length, get_or, drop, Ok, Err, decimal, Result, sym, refl, ap, ◌∙◌, inl, inr, ⊎_elim, pow-suc, add-one, arith}
+use Rattle.std.proofs.Common.{◌≡◌, ℕ, ◌+◌, ◌*◌, ◌^◌, ◌<◌, ◌≤◌, true, false, ◌&&◌, ◌⊎◌, List, length, slice_index_or, drop, Ok, Err, decimal, sym, ap, ◌∙◌, inl, inr, ⊎_elim, pow-suc, add-one, arith}
 use native.Mathlib.Nat.{pow-le-pow_right}
-use Rattle.std.proofs.lemmas.List.{at_drop_more}
-use Rattle.std.proofs.lemmas.Bool.{cond-true, cases_lt, and_from}
+use Rattle.std.proofs.lemmas.List.{at_drop_more, at_drop_all}
+use Rattle.std.proofs.Math.Bool.{and-false}
+use Rattle.std.proofs.lemmas.Bool.{cond-true, cond-false, cases_lt, and_from}
 use Rattle.std.proofs.lemmas.Fmt.{decimal_nonempty, length-decimal-le, first_decimal, decimal_digit, digits_decimal, digits_value-decimal}
 use Rattle.std.proofs.lemmas.Str.Parse.{IsNumeralModel, numerals_by_value, tells_all_ascii_digits}
 use Rattle.std.proofs.lemmas.Bool.Decides.{nat_tests}
@@ -13,45 +14,35 @@ use Rattle.text.specs.declared.number.NumberFault.{NumberFault}
 use Rattle.text.specs.declared.number.NumberFault.TheVariants.{Malformed}
 use Rattle.text.specs.Number.{digit_of, number_shape, is_number, number_of, ReadsBack}
 
--- the digits bs read after n
-abbrev pub read_on : ℕ → List ℕ → Result ℕ NumberFault
-read_on n [] = Ok n
-read_on n (b ∷ bs) = cond (is_ascii_digit b) (read_on (n * 10 + (b - 48)) bs) (Err Malformed)
-
-digit_value : (b : ℕ) → is_ascii_digit b ≡ true → value_of_digit b ≡ b - 48
-digit_value b h = grind (arith, nat_tests)
-
--- it reads all digits to their value, and stops at any other byte
-read_on_is : (n : ℕ) (bs : List ℕ) → read_on n bs ≡ cond (all_ascii_digits bs) (Ok (digits_value_after 10 n bs)) (Err Malformed)
-read_on_is n [] = refl
-read_on_is n (b ∷ bs) =
-    let step : (t : Bool) → is_ascii_digit b ≡ t → cond t (read_on (n * 10 + (b - 48)) bs) (Err Malformed) ≡ cond (t && all_ascii_digits bs) (Ok (digits_value_after 10 (n * 10 + value_of_digit b) bs)) (Err Malformed) =
-    λ t. elim t as (λ t. is_ascii_digit b ≡ t → cond t (read_on (n * 10 + (b - 48)) bs) (Err Malformed) ≡ cond (t && all_ascii_digits bs) (Ok (digits_value_after 10 (n * 10 + value_of_digit b) bs)) (Err Malformed)) [
-      | true ↦ λ e. rw (digit_value b e) (read_on_is (n * 10 + (b - 48)) bs)
-      | false ↦ λ e. refl
-    ] in
-    step (is_ascii_digit b) refl
-
--- a field of the shape of a number is read to its end
-pub number_of_shape : (bs : List ℕ) → number_shape bs ≡ true → read_on 0 bs ≡ number_of bs
-number_of_shape bs h = read_on_is 0 bs ∙ rw h refl
-
--- what a digit is
-pub digit_ok : (b d : ℕ) → digit_of b ≡ Ok d → (is_ascii_digit b ≡ true) × (d ≡ b - 48) × (d < 10)
+-- what a digit is, and what is none
+pub digit_ok : (b d : ℕ) → digit_of b ≡ Ok d → (is_ascii_digit b ≡ true) × (value_of_digit b ≡ d) × (d < 10)
 digit_ok b d h = grind (arith, nat_tests)
 
--- a turn at a digit, and the exit at another byte
-pub read_on_more : (n : ℕ) (bs : List ℕ) (i d : ℕ) → i < length bs → digit_of (get_or bs i 0) ≡ Ok d → read_on (n * 10 + d) (drop (i + 1) bs) ≡ read_on n (drop i bs)
-read_on_more n bs i d h e =
-    let k = digit_ok (get_or bs i 0) d e in
-    sym (at_drop_more (read_on n) bs i 0 h ∙ cond-true _ _ _ k.0 ∙ ap (λ x. read_on (n * 10 + x) (drop (i + 1) bs)) (sym k.1))
+digit_no : (b : ℕ) (f : NumberFault) → digit_of b ≡ Err f → (is_ascii_digit b ≡ false) × (f ≡ Malformed)
+digit_no b f h = grind (arith, nat_tests)
 
-pub read_on_stop : (n : ℕ) (bs : List ℕ) (i : ℕ) (f : NumberFault) → i < length bs → digit_of (get_or bs i 0) ≡ Err f → read_on n (drop i bs) ≡ Err f
-read_on_stop n bs i f h e = at_drop_more (read_on n) bs i 0 h ∙ stop (is_ascii_digit (get_or bs i 0)) e
-  where
-    stop : (t : Bool) → cond t (Ok (get_or bs i 0 - 48)) (Err Malformed) ≡ Err f → cond t (read_on (n * 10 + (get_or bs i 0 - 48)) (drop (i + 1) bs)) (Err Malformed) ≡ Err f
-    stop true q = absurd (let z : ◌≡◌ {A = ℕ} 0 1 = cc in omega arith)
-    stop false q = q
+-- a turn at a digit d of bs, and what is read when the loop ends
+module _ (n : ℕ) (bs : List ℕ) (i : ℕ) where
+  pub value_more : (d : ℕ) → i < length bs → digit_of (slice_index_or bs i 0) ≡ Ok d → digits_value_after 10 (n * 10 + d) (drop (i + 1) bs) ≡ digits_value_after 10 n (drop i bs)
+  value_more d h e =
+      sym (at_drop_more (digits_value_after 10 n) bs i 0 h ∙ ap (λ x. digits_value_after 10 (n * 10 + x) (drop (i + 1) bs)) (digit_ok (slice_index_or bs i 0) d e).1)
+
+  pub digits_more : (d : ℕ) → i < length bs → digit_of (slice_index_or bs i 0) ≡ Ok d → all_ascii_digits (drop (i + 1) bs) ≡ all_ascii_digits (drop i bs)
+  digits_more d h e = sym (at_drop_more all_ascii_digits bs i 0 h ∙ ap (λ t. t && all_ascii_digits (drop (i + 1) bs)) (digit_ok (slice_index_or bs i 0) d e).0)
+
+  -- another byte ends it
+  pub number_stop : (f : NumberFault) → i < length bs → digit_of (slice_index_or bs i 0) ≡ Err f → all_ascii_digits (drop i bs) ≡ all_ascii_digits bs → number_of bs ≡ Err f
+  number_stop f h e same =
+      let no = digit_no (slice_index_or bs i 0) f e in
+      let none : all_ascii_digits bs ≡ false = sym same ∙ at_drop_more all_ascii_digits bs i 0 h ∙ ap (λ t. t && all_ascii_digits (drop (i + 1) bs)) no.0 in
+      cond-false (is_number bs) _ _ (ap (λ t. number_shape bs && t) none ∙ and-false (number_shape bs)) ∙ ap Err (sym no.1)
+
+  -- and so does the end
+  pub number_end : length bs ≤ i → number_shape bs ≡ true → digits_value_after 10 n (drop i bs) ≡ digits_value 10 bs → all_ascii_digits (drop i bs) ≡ all_ascii_digits bs → number_of bs ≡ Ok n
+  number_end h shape value same =
+      let all : all_ascii_digits bs ≡ true = sym same ∙ at_drop_all all_ascii_digits bs i h in
+      let whole : digits_value 10 bs ≡ n = sym value ∙ at_drop_all (digits_value_after 10 n) bs i h in
+      cond-true (is_number bs) _ _ (and_from (number_shape bs) (all_ascii_digits bs) shape all) ∙ ap Ok whole
 
 -- a digit more is a power of ten more
 pub pow_more : (i n d : ℕ) → n < 10 ^ i → d < 10 → n * 10 + d < 10 ^ (i + 1)
@@ -68,7 +59,7 @@ fits i n d s h l = omega (arith, pow_top (i + 1) (n * 10 + d) (omega arith) (pow
 pub shape_short : (bs : List ℕ) → number_shape bs ≡ true → length bs ≤ 7
 shape_short bs h = grind (arith, nat_tests)
 
-shape : (bs : List ℕ) → (length bs ≡ 0 → ⊥) → length bs ≤ 7 → ((get_or bs 0 0 ≡ 48) × (length bs ≤ 1)) ⊎ (get_or bs 0 0 ≡ 48 → ⊥) → number_shape bs ≡ true
+shape : (bs : List ℕ) → (length bs ≡ 0 → ⊥) → length bs ≤ 7 → ((slice_index_or bs 0 0 ≡ 48) × (length bs ≤ 1)) ⊎ (slice_index_or bs 0 0 ≡ 48 → ⊥) → number_shape bs ≡ true
 shape bs a b h = grind (arith, nat_tests)
 
 -- `digits_value 10` reads digits
@@ -82,7 +73,7 @@ shape_decimal n h =
     let few = length-decimal-le 7 n (omega arith) h (omega arith) in
     ⊎_elim
     (λ l. shape (decimal n) (λ e. omega arith) few (inr (λ e. omega (arith, first_decimal n l (omega arith)))))
-    (λ l. let d = decimal_digit n (omega arith) in shape (decimal n) (λ e. omega arith) few (inl (omega (arith, ap (λ ds. get_or ds 0 0) d), omega (arith, ap length d))))
+    (λ l. let d = decimal_digit n (omega arith) in shape (decimal n) (λ e. omega arith) few (inl (omega (arith, ap (λ ds. slice_index_or ds 0 0) d), omega (arith, ap length d))))
     (cases_lt 0 n)
 
 -- what is printed reads back

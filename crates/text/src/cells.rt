@@ -6,7 +6,8 @@ ghost use Rattle.text.specs.Print.{printed_into, HasRoom, Puts};
 use itoa::Buffer;
 use std::iter;
 
-// What stands between two tabs of a printed line: a whole number, or one byte as it is.
+// What stands between two tabs of a printed line: a whole number, or one byte as it is. It is no `Display`, which
+// writes UTF-8: from 128 on a symbol would be two bytes there.
 #[derive(Clone, Copy, Debug, PartialEq)]
 pub enum Cell {
     Number(u64),
@@ -47,7 +48,7 @@ impl Line<'_> {
         }
     }
 
-    // Writes the cells with a tab between each two, and the line feed that ends them.
+    // Writes the cells, with a tab between each two, and the line feed that ends them.
     fn put_line(&mut self, first: Cell, rest: &[Cell])
         requires { HasRoom self.old (line_text first rest.now) }
         ensures { Puts self.old self.new (line_text first rest.now) }

@@ -35,6 +35,7 @@ pub fn read_number(field: &[u8]) -> Result<u32, NumberFault>
     if !has_shape(field) {
         return Err(NumberFault::Malformed);
     }
+    // `str::parse` takes a `+` before the digits, and was ten times as slow here.
     let mut n = 0;
     for b in field {
         n = n * 10 + digit(*b)?;
@@ -42,7 +43,7 @@ pub fn read_number(field: &[u8]) -> Result<u32, NumberFault>
     Ok(n)
 }
 
-// The minutes that `field` writes.
+// The minutes that `field` writes: a rule of their own, which is that of every number as yet.
 pub fn read_minutes(field: &[u8]) -> Result<u32, NumberFault>
     ensures { result ≡ minutes_of field.now }
 {
