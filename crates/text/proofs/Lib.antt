@@ -1,6 +1,6 @@
 pub mod Splits
 pub mod Searches
 pub mod Pieces
-pub mod ReadOn
+pub mod Numbers
 pub mod Puts
 pub mod Texts

@@ -26,7 +26,7 @@ fn digit(b: u8) -> Result<u32, NumberFault>
 }
 
 // The number that `field` writes; what is printed of a number that is small enough reads back as it.
-#[tactic(auto, using(crate::proofs::ReadOn::reads_back))]
+#[tactic(auto, using(crate::proofs::Numbers::reads_back))]
 pub fn read_number(field: &[u8]) -> Result<u32, NumberFault>
     ensures value { result ≡ number_of field.now }
     ensures small { IfOk result (λ n. n < 10 ^ 7) }
