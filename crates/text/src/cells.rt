@@ -83,6 +83,7 @@ fn line_width(first: Cell, rest: &[Cell]) -> u128
 
 // Prints the line of the cells at the front of `place`, and answers how many bytes it took;
 // where there is no room for it, refuses and leaves `place` as it was.
+#[tactic(auto, unfolding(crate::specs::Print::printed_into))]
 pub fn print_line(place: &mut [u8], first: Cell, rest: &[Cell]) -> Result<usize, PrintFault>
     ensures answer { result ≡ (printed_into (line_text first rest.now) place.old).0 }
     ensures after { place.new ≡ (printed_into (line_text first rest.now) place.old).1 }

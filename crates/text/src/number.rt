@@ -44,6 +44,7 @@ pub fn read_number(field: &[u8]) -> Result<u32, NumberFault>
 }
 
 // The minutes that `field` writes: a rule of their own, which is that of every number as yet.
+#[tactic(auto, unfolding(crate::specs::Number::minutes_of))]
 pub fn read_minutes(field: &[u8]) -> Result<u32, NumberFault>
     ensures { result ≡ minutes_of field.now }
 {
