@@ -29,6 +29,7 @@ struct Line<'a> {
 
 impl Line<'_> {
     // Writes the bytes where the last ones ended.
+    #[tactic(auto, unfolding(crate::specs::Print::put_at))]
     fn put(&mut self, bytes: &[u8])
         requires { HasRoom self.old bytes.now }
         ensures { Puts self.old self.new bytes.now }
