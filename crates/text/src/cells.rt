@@ -74,12 +74,15 @@ fn field_width(cell: Cell) -> u128
     }
 }
 
-// How many bytes the line of the cells takes: those of each cell, and of the tab or the line feed behind it. Their sum
-// may pass `usize`, but not `u128`.
+// How many bytes the line of the cells takes. Each cell but the first stands behind a tab, and a line feed ends the line:
+// that is a field's width for each cell. The sum may pass `usize`, but not `u128`.
 fn line_width(first: Cell, rest: &[Cell]) -> u128
     ensures { result ≡ length (line_text first rest.now) }
 {
-    iter::once(first).chain(rest.iter().copied()).map(field_width).sum()
+    iter::once(first)
+        .chain(rest.iter().copied())
+        .map(field_width)
+        .sum()
 }
 
 // Prints the line of the cells at the front of `place`, and answers how many bytes it took;
