@@ -1,5 +1,4 @@
 pub mod Splits
-pub mod Searches
 pub mod Pieces
 pub mod Numbers
 pub mod Puts

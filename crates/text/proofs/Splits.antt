@@ -1,16 +1,27 @@
 -- Laws of `before`, `tally`, `parted` and `ended`.
-use Rattle.std.proofs.Common.{◌≡◌, ℕ, suc, ◌+◌, ◌-◌, ◌<◌, ◌≤◌, true, false, cond, not, eqb, List, [], ◌∷◌, length, take, drop, sym, refl, ap, ◌∙◌, ⊎_elim, add-one, arith}
+use Rattle.std.proofs.Common.{◌≡◌, ℕ, Option, None, Some, unwrap_or, not, suc, ◌+◌, ◌-◌, ◌<◌, ◌≤◌, true, false, cond, eqb, List, [], ◌∷◌, length, take, drop, sym, refl, ap, ◌∙◌, ⊎_elim, add-one, arith}
 use Rattle.std.proofs.lemmas.List.{length-drop, drop-drop, take_all}
 use Rattle.std.proofs.lemmas.List.Folds.{length-prefix_len}
 use Rattle.std.proofs.lemmas.List.Splits.{slice_split_none, slice_split_first, length-slice_split}
 use Rattle.std.proofs.lemmas.List.Sums.{prefix_len-le-length, fails_before_first, take_while-cons}
-use Rattle.std.proofs.lemmas.Bool.{cases_lt}
-use Rattle.std.specs.List.{position_or_len, onto_first}
+use Rattle.std.proofs.lemmas.Bool.{cases_lt, cond-true, cond-false, lt-ltb, le-ltb}
+use Rattle.std.specs.List.{position, position_or_len, onto_first}
 use Rattle.text.specs.Split.{before, tally, parted, ended}
 
 -- how long `before` is
 pub length-before : (b : ℕ) (xs : List ℕ) → length (before b xs) ≡ position_or_len (λ x. eqb x b) xs
 length-before b xs = length-prefix_len (λ x. not (eqb x b)) xs
+
+-- the first place, or the length where there is none
+pub first_place : (b : ℕ) (xs : List ℕ) (r : Option ℕ) → r ≡ position (λ x. eqb x b) xs → unwrap_or r (length xs) ≡ length (before b xs)
+first_place b xs r e =
+    let n = position_or_len (λ x. eqb x b) xs in
+    ap (λ o. unwrap_or o (length xs)) e
+    ∙ ⊎_elim
+    (λ l. ap (λ o. unwrap_or o (length xs)) (cond-true _ (Some n) None (lt-ltb n (length xs) l)))
+    (λ l. ap (λ o. unwrap_or o (length xs)) (cond-false _ (Some n) None (le-ltb n (length xs) l)) ∙ omega (arith, prefix_len-le-length (λ x. not (eqb x b)) xs))
+    (cases_lt n (length xs))
+    ∙ sym (length-before b xs)
 
 -- `before` is no longer than the list
 pub before_short : (b : ℕ) (xs : List ℕ) → length (before b xs) ≤ length xs

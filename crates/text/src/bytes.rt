@@ -2,8 +2,6 @@
 ghost use Rattle.std.specs.Prelude.{◌≡◌, ◌+◌, ◌≤◌, length, drop};
 ghost use Rattle.text.specs.Split.{before, tally, Parts, Ends};
 
-use memchr::{memchr, memchr_iter};
-
 // The index of the first `b` at `from` or after; the length where there is none, and `from` past it. It is what cuts `s`
 // into the pieces that `b` parts, or ends. It is a number and no `Option`: where no `b` is left, the last piece ends at
 // the end of the bytes.
@@ -14,12 +12,12 @@ pub fn find(s: &[u8], from: usize, b: u8) -> usize
     ensures ends { Ends b s.now }
 {
     let rest = &s[from.min(s.len())..];
-    from + memchr(b, rest).unwrap_or(rest.len())
+    from + rest.iter().position(|x| *x == b).unwrap_or(rest.len())
 }
 
 // How many bytes of `s` are `b`.
 pub fn count(s: &[u8], b: u8) -> usize
     ensures { result ≡ tally b s.now }
 {
-    memchr_iter(b, s).count()
+    s.iter().filter(|x| **x == b).count()
 }
