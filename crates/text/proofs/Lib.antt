@@ -1,5 +1,5 @@
 pub mod Splits
 pub mod Pieces
-pub mod ReadOn
+pub mod Numbers
 pub mod Puts
 pub mod Texts

@@ -1,11 +1,11 @@
 -- Bytes that were cut at a byte are the pieces with that byte between or behind them.
-use Rattle.std.proofs.Common.{◌≡◌, ℕ, zero, suc, ◌<◌, Bool, true, false, cond, eqb, ◌⊎◌, List, [], ◌∷◌, ◌++◌, length, sym, refl, ap, ◌∙◌, inl, inr, arith}
+use Rattle.std.proofs.Common.{◌≡◌, ℕ, zero, suc, Bool, true, false, cond, eqb, ◌⊎◌, List, [], ◌∷◌, ◌++◌, length, sym, refl, ap, ◌∙◌, inl, inr, arith}
 use Rattle.std.proofs.lemmas.List.{length_push}
+use Rattle.std.proofs.lemmas.List.Splits.{join_with_byte-slice_split}
 use Rattle.std.proofs.lemmas.Bool.{eqb-true, eqb-false}
-use Rattle.std.specs.List.{flat_map, join_with_byte, AllByRecursion}
+use Rattle.std.specs.List.{flat_map, onto_first, AllByRecursion}
 use Rattle.std.specs.Str.Iter.{LacksByte}
-use Rattle.text.specs.Split.{on_first, parted, ended, closed, Parts, Ends}
-use Rattle.text.proofs.Splits.{parted_some}
+use Rattle.text.specs.Split.{parted, ended, closed, Parts, Ends}
 
 none_lacks : (b : ℕ) → LacksByte b []
 none_lacks b k h e = omega arith
@@ -15,49 +15,33 @@ more_lacks b x p ne l zero h e = ne e
 more_lacks b x p ne l (suc k) h e = l k (omega arith) e
 
 -- a byte other than b goes in front of the first piece
-first_lacks : (b x : ℕ) (ps : List (List ℕ)) → (x ≡ b → ⊥) → AllByRecursion (LacksByte b) ps → AllByRecursion (LacksByte b) (on_first x ps)
+first_lacks : (b x : ℕ) (ps : List (List ℕ)) → (x ≡ b → ⊥) → AllByRecursion (LacksByte b) ps → AllByRecursion (LacksByte b) (onto_first x ps)
 first_lacks b x [] ne a = (more_lacks b x [] ne (none_lacks b), tt)
 first_lacks b x (p ∷ ps) ne a = (more_lacks b x p ne a.0, a.1)
 
-rejoined_first : (b x : ℕ) (ps : List (List ℕ)) → 0 < length ps → join_with_byte b (on_first x ps) ≡ x ∷ join_with_byte b ps
-rejoined_first b x [] h = absurd (omega arith)
-rejoined_first b x (p ∷ []) h = refl
-rejoined_first b x (p ∷ q ∷ ps) h = refl
-
-rejoined_more : (b : ℕ) (ps : List (List ℕ)) → 0 < length ps → join_with_byte b ([] ∷ ps) ≡ b ∷ join_with_byte b ps
-rejoined_more b [] h = absurd (omega arith)
-rejoined_more b (p ∷ ps) h = refl
-
-clean_cut : (b x : ℕ) (ps : List (List ℕ)) (t : Bool) → eqb x b ≡ t → AllByRecursion (LacksByte b) ps → AllByRecursion (LacksByte b) (cond t ([] ∷ ps) (on_first x ps))
+clean_cut : (b x : ℕ) (ps : List (List ℕ)) (t : Bool) → eqb x b ≡ t → AllByRecursion (LacksByte b) ps → AllByRecursion (LacksByte b) (cond t ([] ∷ ps) (onto_first x ps))
 clean_cut b x ps true e a = (none_lacks b, a)
 clean_cut b x ps false e a = first_lacks b x ps (eqb-false x b e) a
 
-whole_cut : (b x : ℕ) (ps : List (List ℕ)) (xs : List ℕ) (t : Bool) → eqb x b ≡ t → 0 < length ps → join_with_byte b ps ≡ xs
-    → join_with_byte b (cond t ([] ∷ ps) (on_first x ps)) ≡ x ∷ xs
-whole_cut b x ps xs true e some h = rejoined_more b ps some ∙ (ap (λ l. b ∷ l) h ∙ ap (λ y. y ∷ xs) (sym (eqb-true x b e)))
-whole_cut b x ps xs false e some h = rejoined_first b x ps some ∙ ap (λ l. x ∷ l) h
+clean_parts : (b : ℕ) (xs : List ℕ) → AllByRecursion (LacksByte b) (parted b xs)
+clean_parts b [] = (none_lacks b, tt)
+clean_parts b (x ∷ xs) = clean_cut b x (parted b xs) (eqb x b) refl (clean_parts b xs)
 
 pub parts : (b : ℕ) (xs : List ℕ) → Parts b xs
-parts b [] = record { whole = refl; clean = (none_lacks b, tt) }
-parts b (x ∷ xs) =
-    let r = parts b xs in
-    record {
-      whole = whole_cut b x (parted b xs) xs (eqb x b) refl (parted_some b xs) r.whole;
-      clean = clean_cut b x (parted b xs) (eqb x b) refl r.clean;
-    }
+parts b xs = record { whole = join_with_byte-slice_split b xs; clean = clean_parts b xs }
 
 -- the pieces with their ends are the bytes, or would be with one more end
 abbrev Closing : ℕ → List (List ℕ) → List ℕ → Type 0
 Closing b ps xs = (flat_map (closed b) ps ≡ xs) ⊎ (flat_map (closed b) ps ≡ xs ++ (b ∷ []))
 
-closing_first : (b x : ℕ) (ps : List (List ℕ)) (xs : List ℕ) → Closing b ps xs → Closing b (on_first x ps) (x ∷ xs)
+closing_first : (b x : ℕ) (ps : List (List ℕ)) (xs : List ℕ) → Closing b ps xs → Closing b (onto_first x ps) (x ∷ xs)
 closing_first b x [] xs (inl h) = inr (ap (λ ys. (x ∷ ys) ++ (b ∷ [])) h)
 closing_first b x [] xs (inr h) = absurd (omega (arith, ap length h, length_push xs b))
 closing_first b x (p ∷ ps) xs (inl h) = inl (ap (λ l. x ∷ l) h)
 closing_first b x (p ∷ ps) xs (inr h) = inr (ap (λ l. x ∷ l) h)
 
 closing_cut : (b x : ℕ) (ps : List (List ℕ)) (xs : List ℕ) (t : Bool) → eqb x b ≡ t → Closing b ps xs
-    → Closing b (cond t ([] ∷ ps) (on_first x ps)) (x ∷ xs)
+    → Closing b (cond t ([] ∷ ps) (onto_first x ps)) (x ∷ xs)
 closing_cut b x ps xs true e (inl h) = inl (ap (λ l. b ∷ l) h ∙ ap (λ y. y ∷ xs) (sym (eqb-true x b e)))
 closing_cut b x ps xs true e (inr h) = inr (ap (λ l. b ∷ l) h ∙ ap (λ y. y ∷ (xs ++ (b ∷ []))) (sym (eqb-true x b e)))
 closing_cut b x ps xs false e h = closing_first b x ps xs h

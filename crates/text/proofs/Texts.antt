@@ -1,27 +1,26 @@
 -- The bytes of a line, how many they are, and how they are printed.
-use Rattle.std.proofs.Common.{◌≡◌, ℕ, ◌+◌, ◌/◌, ◌%◌, ◌^◌, ◌<◌, ◌≤◌, leb, List, [], ◌∷◌, ◌++◌, length, get_or, take, drop, Ok, Err, decimal, sym, ap, ◌∙◌, arith}
-use Rattle.std.proofs.lemmas.Fmt.{length-decimal-le, decimal_step}
-use Rattle.std.proofs.lemmas.List.{length-append, length_push, take_more, flat_map_more, at_drop_more}
-use Rattle.std.proofs.lemmas.Bool.{cond-true, cond-false, le-leb, lt-leb}
-use Rattle.std.specs.List.{flat_map}
+use Rattle.std.proofs.Common.{◌≡◌, ℕ, ◌+◌, ◌^◌, ◌<◌, ◌≤◌, List, [], ◌∷◌, ◌++◌, length, get_or, take, drop, sym, ap, ◌∙◌, arith}
+use Rattle.std.proofs.lemmas.Fmt.{length-decimal-le}
+use Rattle.std.proofs.lemmas.List.{length-append, take_more, flat_map_more, at_drop_more}
+use Rattle.std.proofs.lemmas.List.Concat.{length-flat_map}
+use Rattle.std.specs.List.{flat_map, sum_by}
 use Rattle.text.specs.declared.cells.Cell.{Cell}
 use Rattle.text.specs.declared.cells.Cell.TheVariants.{Number}
-use Rattle.text.specs.declared.cells.PrintFault.TheVariants.{NoRoom}
 use Rattle.text.specs.Cells.{cell_text, cell_field, line_text}
-use Rattle.text.specs.Print.{put_at, printed_into}
 
 -- a number has at most 20 digits
 pub cell_short : (n : ℕ) → n < 2 ^ 64 → length (cell_text (Number n)) ≤ 20
 cell_short n h = length-decimal-le 20 n (omega arith) (omega arith) h
 
--- a number of two digits or more has one more than its front
-pub decimal_longer : (n : ℕ) → 10 ≤ n → n < 2 ^ 64 → length (decimal n) ≡ length (decimal (n / 10)) + 1
-decimal_longer n h f = ap length (decimal_step n h f) ∙ length_push (decimal (n / 10)) (48 + n % 10)
-
 -- how many bytes a line has
 pub length-line_text : (c : Cell) (cs : List Cell) → length (line_text c cs) ≡ length (cell_text c) + (length (flat_map cell_field cs) + 1)
 unfolding line_text
 length-line_text c cs = length-append (cell_text c) (flat_map cell_field cs ++ (10 ∷ [])) ∙ ap (λ n. length (cell_text c) + n) (length-append (flat_map cell_field cs) (10 ∷ []))
+
+-- the same as a sum: each cell has a tab or the line feed behind it
+pub line_text_sum : (c : Cell) (cs : List Cell) → length (line_text c cs) ≡ sum_by (λ x. length (cell_field x)) (c ∷ cs)
+line_text_sum c cs =
+    omega (arith, length-line_text c cs, length-flat_map cell_field (c ∷ cs), length-append (cell_field c) (flat_map cell_field cs))
 
 -- a step of a loop over what is joined: what it has passed, and what is left
 pub joined_take : {X : Type 0} (f : X → List ℕ) (xs : List X) (i : ℕ) (d : X) → i < length xs → flat_map f (take (i + 1) xs) ≡ flat_map f (take i xs) ++ f (get_or xs i d)
@@ -29,16 +28,3 @@ joined_take f xs i d h = ap (flat_map f) (take_more xs i d h) ∙ sym (flat_map_
 
 pub joined_left : {X : Type 0} (f : X → List ℕ) (xs : List X) (i : ℕ) (d : X) → i < length xs → length (flat_map f (drop i xs)) ≡ length (f (get_or xs i d)) + length (flat_map f (drop (i + 1) xs))
 joined_left f xs i d h = ap length (at_drop_more (flat_map f) xs i d h) ∙ length-append (f (get_or xs i d)) (flat_map f (drop (i + 1) xs))
-
--- a text that fits, and one that does not
-pub printed_ok : (xs o t : List ℕ) (n : ℕ) → length t ≤ length xs → o ≡ put_at xs 0 t → n ≡ length t → (Ok n ≡ (printed_into t xs).0) × (o ≡ (printed_into t xs).1)
-unfolding printed_into
-printed_ok xs o t n h e l =
-    let c : (Ok (length t), put_at xs 0 t) ≡ printed_into t xs = sym (cond-true (leb (length t) (length xs)) _ _ (le-leb (length t) (length xs) h)) in
-    (ap Ok l ∙ ap (λ d. d.0) c, e ∙ ap (λ d. d.1) c)
-
-pub printed_no : (xs t : List ℕ) → length xs < length t → (Err NoRoom ≡ (printed_into t xs).0) × (xs ≡ (printed_into t xs).1)
-unfolding printed_into
-printed_no xs t h =
-    let c : (Err NoRoom, xs) ≡ printed_into t xs = sym (cond-false (leb (length t) (length xs)) _ _ (lt-leb (length t) (length xs) h)) in
-    (ap (λ d. d.0) c, ap (λ d. d.1) c)

@@ -1,5 +1,5 @@
 -- What a number of a sheet is.
-use Rattle.std.specs.Prelude.{◌≡◌, ℕ, ◌-◌, ◌^◌, ◌<◌, Bool, cond, not, ◌&&◌, ◌||◌, List, length, Ok, Err, decimal, Result, ◌==◌, nat_le, slice_index}
+use Rattle.std.specs.Prelude.{◌≡◌, ℕ, ◌-◌, ◌^◌, ◌<◌, Bool, if◌then◌else◌, not, ◌&&◌, ◌||◌, List, length, Ok, Err, decimal, Result, ◌==◌, nat_le, slice_index}
 use Rattle.std.specs.Str.Parse.{digits_value}
 use Rattle.std.specs.Char.{is_ascii_digit}
 use Rattle.std.specs.Str.{all_ascii_digits}
@@ -8,7 +8,7 @@ use Rattle.text.specs.declared.number.NumberFault.TheVariants.{Malformed}
 
 -- the value of one byte, where it is a digit
 abbrev pub digit_of : ℕ → Result ℕ NumberFault
-digit_of b = cond (is_ascii_digit b) (Ok (b - 48)) (Err Malformed)
+digit_of b = if is_ascii_digit b then Ok (b - 48) else Err Malformed
 
 -- 1 to 7 bytes, the first no zero unless it stands alone
 abbrev pub number_shape : List ℕ → Bool
@@ -20,7 +20,7 @@ is_number bs = number_shape bs && all_ascii_digits bs
 
 -- the number that the bytes write; `digits_value 10` is the decimal value of digits, as for `str::parse`
 abbrev pub number_of : List ℕ → Result ℕ NumberFault
-number_of bs = cond (is_number bs) (Ok (digits_value 10 bs)) (Err Malformed)
+number_of bs = if is_number bs then Ok (digits_value 10 bs) else Err Malformed
 
 -- minutes and lengths are written as plain numbers
 unfoldable pub minutes_of : List ℕ → Result ℕ NumberFault

@@ -1,32 +1,24 @@
 -- Bytes cut at a byte b.
-use Rattle.std.specs.Prelude.{◌≡◌, ℕ, suc, cond, ◌⊎◌, List, [], ◌∷◌, ◌++◌, ◌==◌}
-use Rattle.std.specs.List.{flat_map, join_with_byte, AllByRecursion}
+use Rattle.std.specs.Prelude.{◌≡◌, ℕ, ◌⊎◌, List, [], ◌∷◌, ◌++◌, ◌==◌, if◌then◌else◌, count_by}
+use Rattle.std.specs.List.{flat_map, join_with_byte, before_first, slice_split, onto_first, AllByRecursion}
 use Rattle.std.specs.Str.Iter.{LacksByte}
 
 -- the bytes before the first b: all where there is none
 abbrev pub before : ℕ → List ℕ → List ℕ
-before b [] = []
-before b (x ∷ xs) = cond (x == b) [] (x ∷ before b xs)
+before b xs = before_first (λ x. x == b) xs
 
 -- how many bytes are b
 abbrev pub tally : ℕ → List ℕ → ℕ
-tally b [] = 0
-tally b (x ∷ xs) = cond (x == b) (suc (tally b xs)) (tally b xs)
-
--- x in front of the first piece, or a piece of its own where there is none
-abbrev pub on_first : ℕ → List (List ℕ) → List (List ℕ)
-on_first x [] = (x ∷ []) ∷ []
-on_first x (p ∷ ps) = (x ∷ p) ∷ ps
+tally b xs = count_by (λ x. x == b) xs
 
 -- the pieces that b parts, as a tab parts fields: one more than there are bytes b
 abbrev pub parted : ℕ → List ℕ → List (List ℕ)
-parted b [] = [] ∷ []
-parted b (x ∷ xs) = cond (x == b) ([] ∷ parted b xs) (on_first x (parted b xs))
+parted b xs = slice_split (λ x. x == b) xs
 
 -- the pieces that b ends, as a line feed ends lines: bytes after the last b are a piece too
 abbrev pub ended : ℕ → List ℕ → List (List ℕ)
 ended b [] = []
-ended b (x ∷ xs) = cond (x == b) ([] ∷ ended b xs) (on_first x (ended b xs))
+ended b (x ∷ xs) = if x == b then [] ∷ ended b xs else onto_first x (ended b xs)
 
 -- what parting means: put together again with b between them, the pieces are the bytes, and none of them has a b
 pub record Parts (b : ℕ) (xs : List ℕ) : Type 0 where

@@ -3,29 +3,21 @@ ghost use Rattle.std.specs.Prelude.{◌≡◌, ◌+◌, ◌≤◌, length, drop}
 ghost use Rattle.text.specs.Split.{before, tally, Parts, Ends};
 
 // The index of the first `b` at `from` or after; the length where there is none, and `from` past it. It is what cuts `s`
-// into the pieces that `b` parts, or ends.
+// into the pieces that `b` parts, or ends. It is a number and no `Option`: where no `b` is left, the last piece ends at
+// the end of the bytes.
 pub fn find(s: &[u8], from: usize, b: u8) -> usize
     ensures is { result ≡ from + length (before b (drop from s.now)) }
     ensures within { from ≤ length s.now → result ≤ length s.now }
     ensures parts { Parts b s.now }
     ensures ends { Ends b s.now }
 {
-    let mut i = from;
-    while i < s.len() && s[i] != b {
-        i += 1;
-    }
-    i
+    let rest = &s[from.min(s.len())..];
+    from + rest.iter().position(|x| *x == b).unwrap_or(rest.len())
 }
 
 // How many bytes of `s` are `b`.
 pub fn count(s: &[u8], b: u8) -> usize
     ensures { result ≡ tally b s.now }
 {
-    let mut n = 0;
-    for x in s {
-        if *x == b {
-            n += 1;
-        }
-    }
-    n
+    s.iter().filter(|x| **x == b).count()
 }

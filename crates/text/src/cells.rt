@@ -1,12 +1,13 @@
 // Lines of cells that tabs part, printed into a lent slice.
-ghost use Rattle.std.specs.Prelude.{◌≡◌, ◌+◌, ◌≤◌, length, nat_le};
-ghost use Rattle.std.specs.List.{flat_map};
+ghost use Rattle.std.specs.Prelude.{◌≡◌, ◌+◌, ◌≤◌, length};
 ghost use Rattle.text.specs.Cells.{cell_text, cell_field, line_text};
-ghost use Rattle.text.specs.Print.{put_at, printed_into};
+ghost use Rattle.text.specs.Print.{printed_into, HasRoom, Puts};
 
-use crate::digits::{put_byte, put_number, width};
+use itoa::Buffer;
+use std::iter;
 
-// What stands between two tabs of a printed line: a whole number, or one byte as it is.
+// What stands between two tabs of a printed line: a whole number, or one byte as it is. It is no `Display`, which
+// writes UTF-8: from 128 on a symbol would be two bytes there.
 #[derive(Clone, Copy, Debug, PartialEq)]
 pub enum Cell {
     Number(u64),
@@ -19,82 +20,82 @@ pub enum PrintFault {
     NoRoom,
 }
 
-// How many bytes a cell takes.
-fn cell_width(cell: Cell) -> usize
-    ensures value { result ≡ length (cell_text cell) }
-    ensures bound { result ≤ 20 }
-{
-    match cell {
-        Cell::Number(n) => width(n),
-        Cell::Symbol(_) => 1,
-    }
+// A line that is being printed: the lent slice, and how much of its front is written.
+#[derive(Drop)]
+struct Line<'a> {
+    place: &'a mut [u8],
+    end: usize,
 }
 
-// Whether the cells, each behind its tab, fit into `room` bytes.
-fn cells_fit(room: usize, cells: &[Cell]) -> bool
-    ensures { result ≡ nat_le (length (flat_map cell_field cells.now)) room }
-{
-    let mut left = room;
-    for cell in cells {
-        let wide = cell_width(*cell) + 1;
-        if wide > left {
-            return false;
+impl Line<'_> {
+    // Writes the bytes where the last ones ended.
+    #[tactic(auto, unfolding(crate::specs::Print::put_at))]
+    fn put(&mut self, bytes: &[u8])
+        requires { HasRoom self.old bytes.now }
+        ensures { Puts self.old self.new bytes.now }
+    {
+        let end = self.end + bytes.len();
+        self.place[self.end..end].copy_from_slice(bytes);
+        self.end = end;
+    }
+
+    fn put_cell(&mut self, cell: Cell)
+        requires { HasRoom self.old (cell_text cell) }
+        ensures { Puts self.old self.new (cell_text cell) }
+    {
+        match cell {
+            Cell::Number(n) => self.put(Buffer::new().format(n).as_bytes()),
+            Cell::Symbol(b) => self.put(&[b]),
         }
-        left -= wide;
     }
-    true
+
+    // Writes the cells, with a tab between each two, and the line feed that ends them.
+    fn put_line(&mut self, first: Cell, rest: &[Cell])
+        requires { HasRoom self.old (line_text first rest.now) }
+        ensures { Puts self.old self.new (line_text first rest.now) }
+    {
+        self.put_cell(first);
+        for cell in rest {
+            self.put(b"\t");
+            self.put_cell(*cell);
+        }
+        self.put(b"\n");
+    }
 }
 
-// Writes a cell at `at`, and answers where it ends.
-fn put_cell(out: &mut [u8], at: usize, cell: Cell) -> usize
-    requires { at + length (cell_text cell) ≤ length out.old }
-    ensures after { out.new ≡ put_at out.old at (cell_text cell) }
-    ensures end { result ≡ at + length (cell_text cell) }
+// How many bytes a cell takes with the tab before it.
+fn field_width(cell: Cell) -> u128
+    ensures value { result ≡ length (cell_field cell) }
+    ensures bound { result ≤ 21 }
 {
     match cell {
-        Cell::Number(n) => put_number(out, at, n),
-        Cell::Symbol(b) => put_byte(out, at, b),
+        Cell::Number(n) => 1 + Buffer::new().format(n).len() as u128,
+        Cell::Symbol(_) => 2,
     }
 }
 
-// Writes the cells at `at`, each behind a tab, and answers where they end.
-fn put_cells(out: &mut [u8], at: usize, cells: &[Cell]) -> usize
-    requires { at + length (flat_map cell_field cells.now) ≤ length out.old }
-    ensures after { out.new ≡ put_at out.old at (flat_map cell_field cells.now) }
-    ensures end { result ≡ at + length (flat_map cell_field cells.now) }
+// How many bytes the line of the cells takes. Each cell but the first stands behind a tab, and a line feed ends the line:
+// that is a field's width for each cell. The sum may pass `usize`, but not `u128`.
+fn line_width(first: Cell, rest: &[Cell]) -> u128
+    ensures { result ≡ length (line_text first rest.now) }
 {
-    let mut end = at;
-    for cell in cells {
-        let start = put_byte(out, end, b'\t');
-        end = put_cell(out, start, *cell);
-    }
-    end
-}
-
-// Writes a line at the front of `out`, and answers where it ends.
-fn put_line(out: &mut [u8], first: Cell, rest: &[Cell]) -> usize
-    requires { length (line_text first rest.now) ≤ length out.old }
-    ensures after { out.new ≡ put_at out.old 0 (line_text first rest.now) }
-    ensures end { result ≡ length (line_text first rest.now) }
-{
-    let start = put_cell(out, 0, first);
-    let end = put_cells(out, start, rest);
-    put_byte(out, end, b'\n')
+    iter::once(first)
+        .chain(rest.iter().copied())
+        .map(field_width)
+        .sum()
 }
 
 // Prints the line of the cells at the front of `place`, and answers how many bytes it took;
 // where there is no room for it, refuses and leaves `place` as it was.
+#[tactic(auto, unfolding(crate::specs::Print::printed_into))]
 pub fn print_line(place: &mut [u8], first: Cell, rest: &[Cell]) -> Result<usize, PrintFault>
     ensures answer { result ≡ (printed_into (line_text first rest.now) place.old).0 }
     ensures after { place.new ≡ (printed_into (line_text first rest.now) place.old).1 }
 {
-    let room = place.len();
-    let wide = cell_width(first) + 1;
-    if wide > room {
+    if line_width(first, rest) > place.len() as u128 {
         return Err(PrintFault::NoRoom);
     }
-    if !cells_fit(room - wide, rest) {
-        return Err(PrintFault::NoRoom);
-    }
-    Ok(put_line(place, first, rest))
+    let mut line = Line { place, end: 0 };
+    line.put_line(first, rest);
+    Ok(line.end)
 }

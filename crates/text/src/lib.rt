@@ -3,5 +3,4 @@
 
 pub mod bytes;
 pub mod cells;
-mod digits;
 pub mod number;

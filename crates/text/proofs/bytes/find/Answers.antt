@@ -1,23 +1,21 @@
-use Rattle.std.proofs.Common.{arith}
-use Rattle.text.proofs.Splits.{before_hit, before_miss, before_none}
+use Rattle.std.proofs.Common.{◌+◌, length, drop, eqb, ap, ◌∙◌, rules, tests}
+use Rattle.std.proofs.lemmas.Iterator.{YieldsList-from_slice}
+use Rattle.std.proofs.lemmas.Iterator.Search.{position_from_yields_List}
+use Rattle.std.proofs.lemmas.List.{take_rest, drop_min}
+use Rattle.text.specs.Split.{before}
 use Rattle.text.proofs.Pieces.{parts, ends}
+use Rattle.text.proofs.Splits.{first_place}
 use Rattle.text.proofs.bytes.find.Goals as goal
 
-pub loop-i-preserved : goal.loop-i-preserved
-loop-i-preserved c = (λ h. omega arith, omega (arith, before_miss c.args.b c.args.s.now c.loop-i.i (omega arith) c.if-s-i.true))
+pub returns-clause-is : goal.returns-clause-is
+returns-clause-is c =
+    let s = c.args.s.now in
+    let rest = take_rest s c.min.result ∙ ap (λ i. drop i s) c.min.ensures ∙ drop_min c.args.from s in
+    let first = position_from_yields_List (λ x. eqb x c.args.b) _ _ c.position.result c.position.ensures.ran (YieldsList-from_slice _ cc) (λ x r q k. search (rules, tests)) in
+    ap (λ n. c.args.from + n) (c.unwrap_or.ensures ∙ first_place c.args.b _ c.position.result first ∙ ap (λ l. length (before c.args.b l)) rest)
 
-pub returns-else-s-i : goal.returns-else-s-i
-returns-else-s-i c = record {
-  is = omega (arith, before_hit c.args.b c.args.s.now c.loop-i.i (omega arith) c.if-s-i.false);
-  within = c.loop-i.invariant.0;
-  parts = parts c.args.b c.args.s.now;
-  ends = ends c.args.b c.args.s.now;
-}
+pub returns-clause-parts : goal.returns-clause-parts
+returns-clause-parts c = parts c.args.b c.args.s.now
 
-pub returns-after-loop-i : goal.returns-after-loop-i
-returns-after-loop-i c = record {
-  is = omega (arith, before_none c.args.b c.args.s.now c.loop-i.i (omega arith));
-  within = c.loop-i.invariant.0;
-  parts = parts c.args.b c.args.s.now;
-  ends = ends c.args.b c.args.s.now;
-}
+pub returns-clause-ends : goal.returns-clause-ends
+returns-clause-ends c = ends c.args.b c.args.s.now
