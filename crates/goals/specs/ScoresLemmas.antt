@@ -1,12 +1,12 @@
 -- Lateness scores keep their order as finishes grow; the scores of the two goals are the greatest finish and lateness.
 use Rattle.std.specs.Prelude.{◌≡◌, ℕ, ◌+◌, ◌<◌, ◌≤◌, max, true, List, [], ◌∷◌, ℤ, Some, None, Option, int_le, int_lt, refl}
-use Rattle.std.proofs.Common.{sym, ap, subst, ◌∙◌, inl, inr, ⊎_elim, arith}
+use Rattle.std.proofs.Common.{ap, subst, inl, inr, ⊎_elim, arith}
 use Rattle.std.specs.Int.{int_max}
 use Rattle.std.proofs.lemmas.Int.{ints}
 use Rattle.std.proofs.lemmas.Bool.{cases_Bool, cases_lt, cond-true, cond-false}
 use Rattle.goals.specs.Finishes.{scored_from}
 use Rattle.goals.specs.Greatest.{Greatest, LatestFinishIsGreatest, LatenessIsGreatest}
-use Rattle.goals.specs.Scores.{with_finish, lateness_of, with_lateness, no_later}
+use Rattle.goals.specs.Scores.{lateness_of, with_lateness, no_later}
 use Rattle.goals.specs.GreatestLemmas.{most, most_greatest}
 
 module _ (due : List ℕ) where
@@ -31,16 +31,12 @@ module _ (due : List ℕ) where
     );
   }
 
-latest_most : (s v : ℕ) (xs : List ℕ) → scored_from with_finish s v xs ≡ most max (λ _ y. y) s v xs
-latest_most s v [] = refl
-latest_most s v (x ∷ xs) = latest_most (max s x) (v + 1) xs
-
 pub latest_finish : LatestFinishIsGreatest
 latest_finish = record {
   none = refl;
   greatest = λ x xs.
       let one : x ≡ max 0 x = omega arith in
-      subst (Greatest ◌≤◌ (λ _ y. y) (x ∷ xs)) (ap (λ s. most max (λ _ y. y) s 1 xs) one ∙ sym (latest_most (max 0 x) 1 xs))
+      subst (Greatest ◌≤◌ (λ _ y. y) (x ∷ xs)) (ap (λ s. most max (λ _ y. y) s 1 xs) one)
       (most_greatest ◌≤◌ max (λ _ y. y) (λ y. omega arith) (λ y z m h. omega arith) (λ y z m h. omega arith)
       (λ y z. ⊎_elim (λ (l : y < z). inr (omega arith)) (λ (l : z ≤ y). inl (omega arith)) (cases_lt y z)) x xs);
 }
