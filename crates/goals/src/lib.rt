@@ -50,6 +50,7 @@ pub fn score_of<G: Goal>(goal: &G, finishes: &[u32]) -> G::Score
     ensures latest { LatestFinishIsGreatest }
     ensures lateness { (due : List ℕ) → LatenessIsGreatest due }
 {
+    // the loop is the recursion of `scored`, one finish a turn; a `fold` over pairs would need a lemma that the two agree
     let mut score = goal.start();
     for (vehicle, finish) in finishes.iter().enumerate() {
         score = goal.add(score, vehicle, *finish);
