@@ -2,7 +2,7 @@
 ghost use Rattle.std.specs.Prelude.{◌≡◌, true};
 ghost use Rattle.hours.specs.Earliest.{Earliest};
 ghost use Rattle.hours.specs.Minutes.{MinuteByMinute};
-ghost use Rattle.hours.specs.Window.{fits, meets, lawful};
+ghost use Rattle.hours.specs.Window.{fits, meets, lawful, begin_from};
 
 use crate::limits::{LAST_MINUTE, LAST_STATION};
 
@@ -33,7 +33,8 @@ impl Window {
 
     // The least begin at `from` or later of a step that fits inside the window, if there is one.
     pub(crate) fn begin_from(&self, station: u32, from: u32, length: u32) -> Option<u32>
-        ensures { Earliest (λ b. fits self.now station b length) from result }
+        ensures value { result ≡ begin_from self.now station from length }
+        ensures least { Earliest (λ b. fits self.now station b length) from result }
     {
         let begin = from.max(self.from);
         if station != self.station || length > self.to || begin > self.to - length {
