@@ -12,6 +12,6 @@ returns g c =
     record {
       least = least;
       value =
-          earliest_is (λ b. g.H.Hours.permits h s b n) (λ b e. let l = (g.H.Hours.limits h s b n e).last in omega arith) c.args.from
+          earliest_is (λ b. g.H.Hours.permits h s b n) (λ b e. let l = (g.met.H.Hours.limits h s b n e).last in omega arith) c.args.from
           c.earliest.result least;
     }
