@@ -1,6 +1,6 @@
 // Hours with a closure.
 ghost use Rattle.std.specs.Prelude.{◌≡◌, not, ◌&&◌, Some, None, MatchResult};
-ghost use Rattle.std.proofs.lemmas.Bool.{and_parts};
+ghost use Rattle.std.proofs.Common.{rules};
 ghost use Rattle.hours.specs.Window.{overlaps};
 ghost use Rattle.hours.specs.Faults.{closure_fault};
 
@@ -31,7 +31,7 @@ impl<H: Hours + Drop> Closure<H> {
 impl<H: Hours> Hours for Closure<H> {
     ghost permits = { λ h s b n. H.Hours.permits h.below s b n && not (overlaps h.closed s b n) };
 
-    ghost limits = { λ h s b n e. H.Hours.limits h.below s b n (and_parts (H.Hours.permits h.below s b n) (not (overlaps h.closed s b n)) e).0 };
+    ghost limits = { Prim.search rules };
 
     fn earliest(&self, station: u32, from: u32, length: u32) -> Option<u32> {
         let begin = self.below.earliest(station, from, length)?;

@@ -1,4 +1,5 @@
 // Hours that are always open.
+ghost use Rattle.std.proofs.Common.{rules};
 ghost use Rattle.hours.specs.Limits.{within, within_limits};
 
 use crate::Hours;
@@ -11,7 +12,7 @@ pub struct Open;
 impl Hours for Open {
     ghost permits = { λ _ s b n. within s b n };
 
-    ghost limits = { λ _ s b n e. within_limits s b n e };
+    ghost limits = { Prim.search rules };
 
     fn earliest(&self, station: u32, from: u32, length: u32) -> Option<u32> {
         if !is_within(station, from, length) {

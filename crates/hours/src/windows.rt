@@ -1,7 +1,7 @@
 // Hours by windows.
 ghost use Rattle.std.specs.Prelude.{◌≡◌, not, min, ◌&&◌, position, Some, None, MatchResult};
 ghost use Rattle.std.specs.List.{filter_map, reduce};
-ghost use Rattle.std.proofs.lemmas.Bool.{and_parts};
+ghost use Rattle.std.proofs.Common.{rules};
 ghost use Rattle.hours.specs.Limits.{within, within_limits};
 ghost use Rattle.hours.specs.Window.{lawful, fits_one, begin_from};
 ghost use Rattle.hours.specs.Faults.{windows_fault};
@@ -55,7 +55,7 @@ impl<'a> Windows<'a> {
 impl<'a> Hours for Windows<'a> {
     ghost permits = { λ h s b n. within s b n && fits_one h.records.now s b n };
 
-    ghost limits = { λ h s b n e. within_limits s b n (and_parts (within s b n) (fits_one h.records.now s b n) e).0 };
+    ghost limits = { Prim.search rules };
 
     fn earliest(&self, station: u32, from: u32, length: u32) -> Option<u32> {
         let begin = self.begin_from(station, from, length)?;
