@@ -16,7 +16,8 @@ pub mod windows;
 pub trait Hours {
     ghost permits: { Self → ℕ → ℕ → ℕ → Bool };
 
-    // The least begin at `from` or later that is permitted on the station for the length, if there is one.
+    // The least begin at `from` or later that is permitted on the station for the length, if there is one. The rules ask it
+    // with three numbers, and halls bring hours of their own, so they stay three and make no struct.
     fn earliest(&self, station: u32, from: u32, length: u32) -> Option<u32>
         ensures least { Earliest (λ b. permits self.now station b length) from result };
 

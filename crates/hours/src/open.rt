@@ -15,9 +15,6 @@ impl Hours for Open {
     ghost limits = { Prim.search rules };
 
     fn earliest(&self, station: u32, from: u32, length: u32) -> Option<u32> {
-        if !is_within(station, from, length) {
-            return None;
-        }
-        Some(from)
+        is_within(station, from, length).then_some(from)
     }
 }

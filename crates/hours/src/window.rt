@@ -7,7 +7,7 @@ ghost use Rattle.hours.specs.Window.{fits, meets, lawful, begin_from};
 use crate::limits::{LAST_MINUTE, LAST_STATION};
 
 // The minutes of a station from `from` up to, but not with, `to`.
-#[derive(Clone, Copy)]
+#[derive(Clone, Copy, Debug, PartialEq, Eq)]
 pub struct Window {
     pub station: u32,
     pub from: u32,

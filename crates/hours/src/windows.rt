@@ -52,7 +52,7 @@ impl<'a> Windows<'a> {
     }
 }
 
-impl<'a> Hours for Windows<'a> {
+impl Hours for Windows<'_> {
     ghost permits = { λ h s b n. within s b n && fits_one h.records.now s b n };
 
     ghost limits = { Prim.search rules };
