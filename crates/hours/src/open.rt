@@ -1,6 +1,6 @@
 // Hours that are always open.
 ghost use Rattle.std.proofs.Common.{rules};
-ghost use Rattle.hours.specs.Limits.{within, within_limits};
+ghost use Rattle.hours.specs.Limits.{within};
 
 use crate::Hours;
 use crate::limits::is_within;

@@ -2,7 +2,7 @@
 ghost use Rattle.std.specs.Prelude.{◌≡◌, not, min, ◌&&◌, position, Some, None, MatchResult};
 ghost use Rattle.std.specs.List.{filter_map, reduce};
 ghost use Rattle.std.proofs.Common.{rules};
-ghost use Rattle.hours.specs.Limits.{within, within_limits};
+ghost use Rattle.hours.specs.Limits.{within};
 ghost use Rattle.hours.specs.Window.{lawful, fits_one, begin_from};
 ghost use Rattle.hours.specs.Faults.{windows_fault};
 
