@@ -25,6 +25,7 @@ pub trait Hours {
 }
 
 // The query's answer, which the permitted set alone fixes.
+#[tactic(auto, using(crate::proofs::Unique::earliest_is))]
 pub fn least_begin<H: Hours>(hours: &H, station: u32, from: u32, length: u32) -> Option<u32>
     ensures least { Earliest (λ b. H.Hours.permits hours.now station b length) from result }
     ensures value { result ≡ earliest_of (λ b. H.Hours.permits hours.now station b length) from }

@@ -17,6 +17,7 @@ pub struct Window {
 impl Window {
     // Whether the station and the minutes are within their limits. Then steps fit inside the window, and overlap it, by
     // their minutes.
+    #[tactic(auto, using(crate::proofs::Minutes::minute_by_minute))]
     pub fn is_lawful(&self) -> bool
         ensures value { result ≡ lawful self.now }
         ensures minutes { result ≡ true → MinuteByMinute self.now }
