@@ -1,7 +1,7 @@
 -- The least begin of a step that fits inside one of some windows.
 use Rattle.std.proofs.Common.{◌≡◌, ℕ, ◌+◌, ◌<◌, ◌≤◌, min, max, Bool, true, ◌&&◌, ◌||◌, List, [], ◌∷◌, ◌==◌, nat_le, refl, Some, None, Option, sym, ap, subst, ⊎_elim, arith}
 use Rattle.std.specs.List.{fold, reduce, filter_map, cons_option}
-use Rattle.std.proofs.lemmas.Bool.{cases_lt, cond_both, both_ways, or_left, or_right, or_from, and_left, and_right, and_from}
+use Rattle.std.proofs.lemmas.Bool.{cases_lt, cond_both, both_ways, and_left, and_right, and_from}
 use Rattle.std.proofs.lemmas.Bool.Decides.{nat_tests}
 use Rattle.hours.specs.declared.window.Window.{Window}
 use Rattle.hours.specs.Earliest.{Earliest}
@@ -16,14 +16,10 @@ sooner (Some x) (Some y) = Some (min x y)
 
 -- the sooner of two answers is the answer to what either permits
 earliest_or : (p q : ℕ → Bool) (from : ℕ) (x y : Option ℕ) → Earliest p from x → Earliest q from y → Earliest (λ b. p b || q b) from (sooner x y)
-earliest_or p q from None None h k = λ b l. or_from _ _ (h b l) (k b l)
-earliest_or p q from None (Some y) h k = (k.0, or_right _ _ k.1, λ b l m. or_from _ _ (h b l) (k.2 b l m))
-earliest_or p q from (Some x) None h k = (h.0, or_left _ _ h.1, λ b l m. or_from _ _ (h.2 b l m) (k b l))
-earliest_or p q from (Some x) (Some y) h k =
-    let low : from ≤ min x y = omega (arith, h.0, k.0) in
-    let here : (p (min x y) || q (min x y)) ≡ true =
-    ⊎_elim (λ (l : x < y). let e : min x y ≡ x = omega arith in rw e (or_left _ _ h.1)) (λ (l : y ≤ x). let e : min x y ≡ y = omega arith in rw e (or_right _ _ k.1)) (cases_lt x y) in
-    (low, here, λ b l m. or_from _ _ (h.2 b l (omega arith)) (k.2 b l (omega arith)))
+earliest_or p q from None None h k = grind (arith, nat_tests)
+earliest_or p q from None (Some y) h k = grind (arith, nat_tests)
+earliest_or p q from (Some x) None h k = grind (arith, nat_tests)
+earliest_or p q from (Some x) (Some y) h k = grind (arith, nat_tests)
 
 -- the least of some begins, with one more in front
 least_more : (x y : ℕ) (zs : List ℕ) → fold min (min x y) zs ≡ min x (fold min y zs)

@@ -1,6 +1,6 @@
 -- A query has one answer, the value of earliest_of.
-use Rattle.std.proofs.Common.{◌≡◌, ℕ, zero, suc, ◌+◌, ◌-◌, ◌<◌, ◌≤◌, Bool, true, false, Some, None, Option, sym, refl, ap, ⊎_elim, arith}
-use Rattle.std.proofs.lemmas.Bool.{both_ways, cases_order, cases_Bool, cond_both}
+use Rattle.std.proofs.Common.{◌≡◌, ℕ, zero, suc, ◌+◌, ◌-◌, ◌≤◌, Bool, true, false, Some, None, Option, refl, ap, arith}
+use Rattle.std.proofs.lemmas.Bool.{cond_both}
 use Rattle.hours.specs.Earliest.{Earliest, first_of, earliest_of}
 
 pub earliest_unique : (p : ℕ → Bool) (from : ℕ) (x y : Option ℕ) → Earliest p from x → Earliest p from y → x ≡ y
@@ -13,12 +13,9 @@ earliest_unique p from (Some x) (Some y) h k =
 
 -- where a begin is not permitted, the answer is that from the next minute on
 module _ (p : ℕ → Bool) (from : ℕ) (e : p from ≡ false) where
-  low : (b : ℕ) → from ≤ b → (from + 1 ≤ b → p b ≡ false) → p b ≡ false
-  low b l more = grind arith
-
   later : (r : Option ℕ) → Earliest p (from + 1) r → Earliest p from r
-  later None h = λ b l. low b l (h b)
-  later (Some x) h = (omega (arith, h.0), h.1, λ b l m. low b l (λ k. h.2 b k m))
+  later None h = grind arith
+  later (Some x) h = grind arith
 
 first_earliest : (p : ℕ → Bool) (k from : ℕ) → ((b : ℕ) → from + k ≤ b → p b ≡ false) → Earliest p from (first_of p k from)
 first_earliest p zero from h = λ b l. h b (omega arith)
