@@ -1,7 +1,7 @@
 -- The least begin of a step that fits inside one of some windows.
-use Rattle.std.proofs.Common.{◌≡◌, ℕ, ◌+◌, ◌<◌, ◌≤◌, min, max, Bool, true, ◌&&◌, ◌||◌, List, [], ◌∷◌, ◌==◌, nat_le, refl, Some, None, Option, sym, ap, subst, ⊎_elim, arith}
+use Rattle.std.proofs.Common.{◌≡◌, ℕ, ◌+◌, ◌≤◌, min, max, Bool, true, ◌&&◌, ◌||◌, List, [], ◌∷◌, ◌==◌, nat_le, refl, Some, None, Option, sym, ap, subst, arith}
 use Rattle.std.specs.List.{fold, reduce, filter_map, cons_option}
-use Rattle.std.proofs.lemmas.Bool.{cases_lt, cond_both, both_ways, and_left, and_right, and_from}
+use Rattle.std.proofs.lemmas.Bool.{cond_both}
 use Rattle.std.proofs.lemmas.Bool.Decides.{nat_tests}
 use Rattle.hours.specs.declared.window.Window.{Window}
 use Rattle.hours.specs.Earliest.{Earliest}
@@ -55,16 +55,13 @@ module _ (s n from : ℕ) (ws : List Window) where
   least_is o e = subst (Earliest (λ b. fits_one ws s b n) from) e (fits_one_least s from n ws)
 
   pub limited_none : reduce min (filter_map (λ w. begin_from w s from n) ws) ≡ None → Earliest (λ b. within s b n && fits_one ws s b n) from None
-  limited_none e = λ b l. and_right (within s b n) (fits_one ws s b n) (least_is None e b l)
+  limited_none e = let h = least_is None e in grind (arith, nat_tests)
 
   pub limited : (x : ℕ) (r : Option ℕ) → reduce min (filter_map (λ w. begin_from w s from n) ws) ≡ Some x → Earliest (λ b. within s b n) x r
       → Earliest (λ b. within s b n && fits_one ws s b n) from r
-  limited x None e k =
-      let h = least_is (Some x) e in
-      λ b l. ⊎_elim (λ (m : b < x). and_right (within s b n) (fits_one ws s b n) (h.2 b l m)) (λ (m : x ≤ b). and_left (within s b n) (fits_one ws s b n) (k b m)) (cases_lt b x)
+  limited x None e k = let h = least_is (Some x) e in grind (arith, nat_tests)
   limited x (Some y) e k =
       let h = least_is (Some x) e in
       let here : within s x n ≡ true = sooner_within x y k.0 k.1 in
-      let same : y ≡ x =
-      ⊎_elim (λ (l : x < y). absurd (both_ways (within s x n) (k.2 x (omega arith) l) here)) (λ (l : y ≤ x). omega (arith, k.0)) (cases_lt x y) in
-      rw same (h.0, and_from (within s x n) (fits_one ws s x n) here h.1, λ b l m. and_right (within s b n) (fits_one ws s b n) (h.2 b l m))
+      let same : y ≡ x = grind (arith, nat_tests) in
+      rw same (grind (arith, nat_tests))
