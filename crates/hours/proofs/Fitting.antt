@@ -9,7 +9,7 @@ use Rattle.hours.specs.Limits.{within}
 use Rattle.hours.specs.Window.{fits, fits_one, begin_from}
 
 -- the lesser of two begins
-abbrev pub sooner : Option ℕ → Option ℕ → Option ℕ
+abbrev sooner : Option ℕ → Option ℕ → Option ℕ
 sooner None b = b
 sooner (Some x) None = Some x
 sooner (Some x) (Some y) = Some (min x y)
