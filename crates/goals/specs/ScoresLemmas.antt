@@ -1,9 +1,8 @@
 -- Lateness scores keep their order as finishes grow; the scores of the two goals are the greatest finish and lateness.
-use Rattle.std.specs.Prelude.{◌≡◌, ℕ, ◌+◌, ◌<◌, ◌≤◌, max, true, List, [], ◌∷◌, ℤ, Some, None, Option, int_le, int_lt, refl}
-use Rattle.std.proofs.Common.{ap, subst, inl, inr, ⊎_elim, arith}
+use Rattle.std.specs.Prelude.{◌≡◌, ℕ, ◌+◌, ◌≤◌, max, true, List, [], ◌∷◌, ℤ, Some, None, Option, int_le, refl}
+use Rattle.std.proofs.Common.{ap, subst, arith}
 use Rattle.std.specs.Int.{int_max}
 use Rattle.std.proofs.lemmas.Int.{ints}
-use Rattle.std.proofs.lemmas.Bool.{cases_Bool, cases_lt, cond-true, cond-false}
 use Rattle.goals.specs.Finishes.{scored_from}
 use Rattle.goals.specs.Greatest.{Greatest, LatestFinishIsGreatest, LatenessIsGreatest}
 use Rattle.goals.specs.Scores.{lateness_of, with_lateness, no_later}
@@ -27,7 +26,7 @@ module _ (due : List ℕ) where
       most int_max (lateness_of due) (lateness_of due 0 x) 1 xs,
       scored_most (lateness_of due 0 x) 1 xs,
       most_greatest (λ y z. int_le y z ≡ true) int_max (lateness_of due) (λ y. grind (arith, ints)) (λ y z m h. grind (arith, ints)) (λ y z m h. grind (arith, ints))
-          (λ y z. ⊎_elim (λ e. inl (cond-true (int_lt z y) y z e)) (λ e. inr (cond-false (int_lt z y) y z e)) (cases_Bool (int_lt z y))) x xs,
+          (λ y z. grind (arith, ints)) x xs,
     );
   }
 
@@ -38,5 +37,5 @@ latest_finish = record {
       let one : x ≡ max 0 x = omega arith in
       subst (Greatest ◌≤◌ (λ _ y. y) (x ∷ xs)) (ap (λ s. most max (λ _ y. y) s 1 xs) one)
       (most_greatest ◌≤◌ max (λ _ y. y) (λ y. omega arith) (λ y z m h. omega arith) (λ y z m h. omega arith)
-      (λ y z. ⊎_elim (λ (l : y < z). inr (omega arith)) (λ (l : z ≤ y). inl (omega arith)) (cases_lt y z)) x xs);
+      (λ y z. grind arith) x xs);
 }
