@@ -1,11 +1,13 @@
--- Lateness scores keep their order as finishes grow; the scores of the two goals are the greatest finish and lateness.
-use Rattle.std.specs.Prelude.{◌≡◌, ℕ, ◌+◌, ◌≤◌, max, true, List, [], ◌∷◌, ℤ, Some, None, Option, int_le, refl}
+-- Scores keep their order as finishes grow; the scores of the two goals are the greatest finish and lateness.
+use Rattle.std.specs.Prelude.{◌≡◌, ℕ, nat_le, ◌+◌, ◌≤◌, max, true, List, [], ◌∷◌, ℤ, Some, None, Option, int_le, refl}
 use Rattle.std.proofs.Common.{ap, subst, arith}
 use Rattle.std.specs.Int.{int_max}
 use Rattle.std.proofs.lemmas.Int.{ints}
-use Rattle.goals.specs.Finishes.{scored_from}
+use Rattle.std.proofs.lemmas.Bool.Decides.{nat_tests}
+use Rattle.goals.specs.Finishes.{scored_from, scored, NoLater}
 use Rattle.goals.specs.Greatest.{Greatest, LatestFinishIsGreatest, LatenessIsGreatest}
-use Rattle.goals.specs.Scores.{lateness_of, with_lateness, no_later}
+use Rattle.goals.specs.Scores.{with_finish, lateness_of, with_lateness, no_later}
+use Rattle.goals.specs.Scoring.{monotone_by_step}
 use Rattle.goals.specs.GreatestLemmas.{most, most_greatest}
 
 module _ (due : List ℕ) where
@@ -14,6 +16,9 @@ module _ (due : List ℕ) where
   lateness_keeps None (Some b) v x y le r = grind (arith, ints)
   lateness_keeps (Some a) None v x y le r = grind (arith, ints)
   lateness_keeps (Some a) (Some b) v x y le r = grind (arith, ints)
+
+  pub lateness_monotone : (xs ys : List ℕ) → NoLater xs ys → no_later (scored (with_lateness due) None xs) (scored (with_lateness due) None ys) ≡ true
+  lateness_monotone = monotone_by_step (with_lateness due) (λ a b. no_later a b ≡ true) (λ s t v x y few le small r. lateness_keeps s t v x y le r) None refl
 
   scored_most : (y : ℤ) (v : ℕ) (xs : List ℕ) → scored_from (with_lateness due) (Some y) v xs ≡ Some (most int_max (lateness_of due) y v xs)
   scored_most y v [] = refl
@@ -29,6 +34,9 @@ module _ (due : List ℕ) where
           (λ y z. grind (arith, ints)) x xs,
     );
   }
+
+pub latest_monotone : (xs ys : List ℕ) → NoLater xs ys → nat_le (scored with_finish 0 xs) (scored with_finish 0 ys) ≡ true
+latest_monotone = monotone_by_step with_finish (λ a b. nat_le a b ≡ true) (λ s t v x y few le small r. grind (arith, nat_tests)) 0 refl
 
 pub latest_finish : LatestFinishIsGreatest
 latest_finish = record {

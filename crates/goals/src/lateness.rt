@@ -1,10 +1,8 @@
 // The goal of keeping due minutes.
-ghost use Rattle.std.specs.Prelude.{◌≡◌, not, position, Some, None, MatchResult, refl};
+ghost use Rattle.std.specs.Prelude.{◌≡◌, not, position, Some, None, MatchResult};
 ghost use Rattle.goals.specs.Scores.{with_lateness, no_later};
 ghost use Rattle.goals.specs.Faults.{may_be_due, due_fault};
-ghost use Rattle.std.proofs.Math.Bool;
-ghost use Rattle.goals.specs.ScoresLemmas.{lateness_keeps};
-ghost use Rattle.goals.specs.Scoring.{monotone_by_step};
+ghost use Rattle.goals.specs.ScoresLemmas.{lateness_monotone};
 ghost use Rattle.std.proofs.Common.{rules};
 
 use crate::fault::GoalFault;
@@ -30,7 +28,9 @@ fn first_beyond(due: &[u32]) -> Option<usize>
 impl GreatestLateness {
     // The goal with these due minutes, in the order of the vehicles' numbers, or the fault of the list.
     pub fn new(due: &[u32]) -> Result<GreatestLateness, GoalFault>
-        ensures made { MatchResult result (λ g. (due_fault due.now ≡ None) × (g.due ≡ due.now)) (λ e. due_fault due.now ≡ Some e) }
+        ensures made { MatchResult result
+            (λ g. (due_fault due.now ≡ None) × (g.due ≡ due.now))
+            (λ e. due_fault due.now ≡ Some e) }
     {
         let table = <[u32; MOST_VEHICLES]>::try_from(due).map_err(|_| GoalFault::DueCount)?;
         if let Some(index) = first_beyond(due) {
@@ -53,7 +53,7 @@ impl Goal for GreatestLateness {
 
     ghost transitive = { Prim.search rules };
 
-    ghost monotone = { λ g. monotone_by_step (with_lateness g.due) (λ a b. no_later a b ≡ Bool.true) (λ s t v x y few le small. lateness_keeps g.due s t v x y le) None refl };
+    ghost monotone = { λ g. lateness_monotone g.due };
 
     fn start(&self) -> Option<i64> {
         None

@@ -16,9 +16,13 @@ pub struct Closure<H> {
 }
 
 impl<H: Hours + Drop> Closure<H> {
-    // The hours `below` with the station closed from minute `from` up to, but not with, minute `to`.
+    // The hours `below` with the station closed from minute `from` up to, but not with, minute `to`. The rules ask for three
+    // numbers and not for a window, and refuse them here.
     pub fn new(below: H, station: u32, from: u32, to: u32) -> Result<Closure<H>, HoursFault>
-        ensures made { MatchResult result (λ h. (closure_fault station from to ≡ None) × (h.below ≡ below) × (h.closed ≡ record { station = station; from = from; to = to })) (λ e. closure_fault station from to ≡ Some e) }
+        ensures made { MatchResult result
+            (λ h. (closure_fault station from to ≡ None) × (h.below ≡ below)
+            × (h.closed ≡ record { station = station; from = from; to = to }))
+            (λ e. closure_fault station from to ≡ Some e) }
     {
         let closed = Window { station, from, to };
         if !closed.is_lawful() {

@@ -30,7 +30,9 @@ fn first_unlawful(records: &[Window]) -> Option<usize>
 impl<'a> Windows<'a> {
     // Hours by these windows, or the fault of the list.
     pub fn new(records: &'a [Window]) -> Result<Windows<'a>, HoursFault>
-        ensures made { MatchResult result (λ h. (windows_fault records.now ≡ None) × (h.records.now ≡ records.now)) (λ e. windows_fault records.now ≡ Some e) }
+        ensures made { MatchResult result
+            (λ h. (windows_fault records.now ≡ None) × (h.records.now ≡ records.now))
+            (λ e. windows_fault records.now ≡ Some e) }
     {
         if records.len() > MOST_WINDOWS {
             return Err(HoursFault::WindowCount);
