@@ -1,6 +1,7 @@
--- Scores grow with the finishes where adding one keeps the order.
-use Rattle.std.specs.Prelude.{◌≡◌, ℕ, suc, ◌+◌, ◌<◌, ◌≤◌, List, [], ◌∷◌, length, slice_index}
-use Rattle.std.proofs.Common.{arith}
+-- The score of a list of finishes: one finish more, and that scores grow with the finishes where adding one keeps the order.
+use Rattle.std.specs.Prelude.{◌≡◌, ℕ, suc, ◌+◌, ◌<◌, ◌≤◌, List, [], ◌∷◌, length, drop, slice_index}
+use Rattle.std.proofs.Common.{sym, ap, ◌∙◌, arith}
+use Rattle.std.proofs.lemmas.List.{at_drop_more}
 use Rattle.goals.specs.Finishes.{scored_from, scored, NoLater}
 
 module _ {S : Type 0} (add : S → ℕ → ℕ → S) (R : S → S → Type 0)
@@ -19,3 +20,9 @@ module _ {S : Type 0} (add : S → ℕ → ℕ → S) (R : S → S → Type 0)
   pub monotone_by_step : (s : S) → R s s → (xs ys : List ℕ) → NoLater xs ys → R (scored add s xs) (scored add s ys)
   monotone_by_step s r xs ys n =
       from_vehicle xs ys s s 0 r n.same (omega (arith, n.same, n.taken.few)) n.taken.small n.below
+
+-- one finish more is added to the score
+pub scored_more : {S : Type 0} (add : S → ℕ → ℕ → S) (s t : S) (v : ℕ) (xs : List ℕ) → v < length xs → t ≡ add s v (slice_index xs v)
+    → scored_from add t (v + 1) (drop (v + 1) xs) ≡ scored_from add s v (drop v xs)
+scored_more add s t v xs lt e =
+    ap (λ u. scored_from add u (v + 1) (drop (v + 1) xs)) e ∙ sym (at_drop_more (scored_from add s v) xs v 0 lt)
