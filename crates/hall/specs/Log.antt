@@ -1,6 +1,6 @@
 -- The hall log: a minute, which is now, and the steps of each vehicle with the begins and ends recorded of them.
-use Rattle.std.specs.Prelude.{ℕ, Bool, true, false, not, ◌&&◌, ◌||◌, List, [], ◌∷◌, ◌==◌, slice_index_or, slice_set}
-use Rattle.std.specs.List.{prefix_len}
+use Rattle.std.specs.Prelude.{ℕ, Bool, true, false, not, ◌&&◌, List, [], ◌==◌, slice_index_or, slice_set}
+use Rattle.std.specs.List.{list_any, prefix_len}
 use Rattle.hall.specs.declared.step.Progress.{Progress}
 use Rattle.hall.specs.declared.step.Progress.TheVariants.{Waiting, Running, Done}
 use Rattle.hall.specs.declared.step.StepRecord.{StepRecord}
@@ -75,13 +75,11 @@ step_at l v j = slice_index_or (vehicle_at l v) j blank
 
 -- some step of the vehicle runs on the station
 abbrev pub occupies : ℕ → List StepRecord → Bool
-occupies s [] = false
-occupies s (r ∷ rs) = (running r.progress && r.station == s) || occupies s rs
+occupies s rs = list_any (λ r. running r.progress && r.station == s) rs
 
 -- some step of a vehicle runs on the station
 abbrev pub taken : ℕ → List (List StepRecord) → Bool
-taken s [] = false
-taken s (v ∷ vs) = occupies s v || taken s vs
+taken s vs = list_any (occupies s) vs
 
 -- the step record with another progress
 abbrev pub reached : StepRecord → Progress → StepRecord

@@ -66,7 +66,8 @@ step_fault k (s ∷ ss) =
     (cond (nat_lt 1440 s.length) (Some (LengthOutside k))
     (step_fault (k + 1) ss)))
 
-abbrev pub unless : Option BoardFault → ℕ → Result ℕ BoardFault
+-- the answer, unless there is a fault
+abbrev pub unless : {A : Type 0} → Option BoardFault → A → Result A BoardFault
 unless None n = Ok n
 unless (Some e) n = Err e
 
