@@ -9,7 +9,7 @@ use Rattle.hall.specs.declared.step.StepRecord.{StepRecord}
 use Rattle.hall.specs.declared.vehicle.Vehicle.{Vehicle}
 use Rattle.hall.specs.Log.{Log}
 use Rattle.hall.specs.Rules.{step_fault, unless, enter_answer, enter_log, booked}
-use Rattle.hall.specs.View.{steps_of, log_of, Counted, Filled}
+use Rattle.hall.specs.View.{steps_of, log_of}
 
 -- what is read past a booking's last step
 abbrev pub nothing : Step
@@ -78,18 +78,3 @@ pub booked_more : (rs : List StepRecord) (ss : List Step) (i : ℕ) → i < leng
 booked_more rs ss i a b e =
     take_more_set rs i (booked (get_or ss i nothing)) a
     ∙ (ap (λ xs. xs ++ (booked (get_or ss i nothing) ∷ [])) e ∙ sym (map_more booked ss i nothing b))
-
--- what holds of each record of a table still holds after a write of one that has it
-pub each_set : {X : Type 0} (P : X → Type 0) (xs : List X) (i : ℕ) (w : X) → ((k : ℕ) (d : X) → k < length xs → P (get_or xs k d)) → P w
-    → (k : ℕ) (d : X) → k < length (set xs i w) → P (get_or (set xs i w) k d)
-each_set P xs i w old new k d lt =
-    let l : k < length xs = omega (arith, length-set xs i w) in
-    ⊎_elim (λ e. subst P (sym (ap (λ n. get_or (set xs i w) n d) e ∙ get_or-set_same xs i w d (omega arith))) new)
-    (λ ne. subst P (sym (get_or-set_other xs i k w d ne)) (old k d l)) (cases_eq k i)
-
--- so a table stays counted and filled where a record is written that counts as many steps, of a table as long, as the one before
-pub counted_set : (vs : List Vehicle) (v : ℕ) (d w : Vehicle) → Counted vs → v < length vs → w.len ≡ (get_or vs v d).len → Counted (set vs v w)
-counted_set vs v d w old lt e = each_set (λ u. u.len ≤ 8) vs v w old (subst (λ n. n ≤ 8) (sym e) (old v d lt))
-
-pub filled_set : (vs : List Vehicle) (v : ℕ) (d w : Vehicle) → Filled vs → v < length vs → length w.steps ≡ length (get_or vs v d).steps → Filled (set vs v w)
-filled_set vs v d w old lt e = each_set (λ u. length u.steps ≡ 8) vs v w old (e ∙ old v d lt)
