@@ -2,7 +2,7 @@
 use Rattle.std.proofs.Common.{◌≡◌, ℕ, ◌+◌, ◌-◌, ◌<◌, ◌≤◌, Bool, true, false, cond, not, ltb, List, length, get_or, set, sym, refl, ap, ◌∙◌, ⊎_elim, arith}
 use Rattle.std.specs.List.{prefix_len}
 use Rattle.std.proofs.lemmas.List.{get_or_past, get_or-set_same, get_or-set_other, length-set}
-use Rattle.std.proofs.lemmas.List.Sums.{prefix_len-le-length}
+use Rattle.std.proofs.lemmas.List.Sums.{prefix_len_is}
 use Rattle.std.proofs.lemmas.Bool.{cases_lt, cases_order, cases_eq, cases_Bool, both_ways, lt-ltb, le-ltb, ltb-true, ltb-false}
 use Rattle.hall.specs.declared.step.Progress.{Progress}
 use Rattle.hall.specs.declared.step.Progress.TheVariants.{Waiting, Running, Done}
@@ -26,15 +26,6 @@ pub record Within (rs : List StepRecord) (n m : ℕ) : Type 0 where
   pub here : (get_or rs n blank).progress ≡ Running m
   pub later : (b : ℕ) → n < b → begun (get_or rs b blank) ≡ false
 
--- the front is as long as the place of the first that fails
-pub leading_is : {X : Type 0} (p : X → Bool) (xs : List X) (i : ℕ) (d : X) → i ≤ length xs
-    → ((k : ℕ) → k < i → p (get_or xs k d) ≡ true) → (i < length xs → p (get_or xs i d) ≡ false) → prefix_len p xs ≡ i
-leading_is p xs i d h below at =
-    ⊎_elim (λ e. e)
-    (⊎_elim (λ lt. absurd (both_ways _ (leading_at p xs d (omega arith)) (below (prefix_len p xs) lt)))
-    (λ lt. absurd (both_ways _ (at (omega (arith, prefix_len-le-length p xs))) (leading_below p xs i d lt))))
-    (cases_order (prefix_len p xs) i)
-
 waiting_idle : (p : Progress) → not (waiting p) ≡ false → not (running p) ≡ true
 waiting_idle Waiting h = refl
 waiting_idle (Running b) h = absurd (both_ways true h refl)
@@ -42,7 +33,7 @@ waiting_idle (Done b e) h = refl
 
 module _ (rs : List StepRecord) (n : ℕ) (k : Between rs n) where
   pub between_next : next_step rs ≡ n
-  between_next = leading_is begun rs n blank k.few (λ a lt. done_begun _ (k.earlier a lt)) (λ lt. k.later n (omega arith))
+  between_next = prefix_len_is begun rs n blank k.few (λ a lt. done_begun _ (k.earlier a lt)) (λ lt. k.later n (omega arith))
 
   -- none of the steps runs
   rests : (i : ℕ) → idle (get_or rs i blank) ≡ true
@@ -50,7 +41,7 @@ module _ (rs : List StepRecord) (n : ℕ) (k : Between rs n) where
       ⊎_elim (λ lt. ap not (done_idle _ (k.earlier i lt))) (λ ge. waiting_idle _ (k.later i ge)) (cases_lt i n)
 
   pub between_running : running_step rs ≡ length rs
-  between_running = leading_is idle rs (length rs) blank (omega arith) (λ i lt. rests i) (λ lt. absurd (omega arith))
+  between_running = prefix_len_is idle rs (length rs) blank (omega arith) (λ i lt. rests i) (λ lt. absurd (omega arith))
 
   pub between_place : place_of rs ≡ before (length rs) n
   between_place =
@@ -60,14 +51,14 @@ module _ (rs : List StepRecord) (n : ℕ) (k : Between rs n) where
 module _ (rs : List StepRecord) (n m : ℕ) (k : Within rs n m) where
   pub within_next : next_step rs ≡ n + 1
   within_next =
-      leading_is begun rs (n + 1) blank (omega (arith, k.few))
+      prefix_len_is begun rs (n + 1) blank (omega (arith, k.few))
       (λ a lt. ⊎_elim (λ e. ap (λ i. begun (get_or rs i blank)) e ∙ ap (λ p. not (waiting p)) k.here)
       (λ ne. done_begun _ (k.earlier a (omega arith))) (cases_eq a n))
       (λ lt. k.later (n + 1) (omega arith))
 
   pub within_running : running_step rs ≡ n
   within_running =
-      leading_is idle rs n blank (omega (arith, k.few)) (λ a lt. ap not (done_idle _ (k.earlier a lt)))
+      prefix_len_is idle rs n blank (omega (arith, k.few)) (λ a lt. ap not (done_idle _ (k.earlier a lt)))
       (λ lt. ap (λ p. not (running p)) k.here)
 
   pub within_place : place_of rs ≡ runs n
