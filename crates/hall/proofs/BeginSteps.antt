@@ -6,7 +6,7 @@ use Rattle.hall.specs.declared.step.Progress.TheVariants.{Running}
 use Rattle.hall.specs.declared.step.StepRecord.{StepRecord}
 use Rattle.hall.specs.Job.{Place, waits, runs, beginning, station, Config, booking_of, jobs_of, place_of, clock_of, config_of, Begins}
 use Rattle.hall.specs.Lasting.{Lasting}
-use Rattle.hall.specs.Log.{Log, vehicle_at, step_at, blank, reached, marked, begun, idle, running, taken, occupies, begin_of}
+use Rattle.hall.specs.Log.{Log, vehicle_at, step_at, blank, reached, marked, begun, idle, running, taken, occupies, begin_of, steps_with}
 use Rattle.hall.specs.Rules.{begin_answer}
 use Rattle.hall.proofs.Begins.{MayBegin, begin_ok}
 use Rattle.hall.proofs.Configurations.{booked_step, moves, moved_to, by_vehicle}
@@ -25,16 +25,16 @@ module _ (l : Log) (v n : ℕ) (k : Lasting l) (m : MayBegin l v n) where
         (cases_eq b n);
   }
 
-  now_runs : Within (set (vehicle_at l v) n (reached (step_at l v n) (Running l.minute))) n l.minute
+  now_runs : Within (steps_with (vehicle_at l v) n (Running l.minute)) n l.minute
   now_runs = begun_within (vehicle_at l v) n l.minute m.left between
 
   from : (config_of l).state v ≡ waits n
   from = between_place (vehicle_at l v) n between ∙ cond-true (ltb n (length (vehicle_at l v))) _ _ (lt-ltb _ _ m.left)
 
-  to : place_of (set (vehicle_at l v) n (reached (step_at l v n) (Running l.minute))) ≡ runs n
+  to : place_of (steps_with (vehicle_at l v) n (Running l.minute)) ≡ runs n
   to = within_place _ n l.minute now_runs
 
-  clock : clock_of l.minute (set (vehicle_at l v) n (reached (step_at l v n) (Running l.minute))) ≡ 0
+  clock : clock_of l.minute (steps_with (vehicle_at l v) n (Running l.minute)) ≡ 0
   clock = omega (arith, within_last _ n l.minute now_runs)
 
   in_job : n < length (jobs_of l v)

@@ -7,7 +7,7 @@ use Rattle.hall.specs.declared.step.Progress.{Progress}
 use Rattle.hall.specs.declared.step.Progress.TheVariants.{Running, Done}
 use Rattle.hall.specs.declared.step.StepRecord.{StepRecord}
 use Rattle.hall.specs.declared.vehicle.Vehicle.{Vehicle}
-use Rattle.hall.specs.Log.{Log, vehicle_at, step_at, blank, reached, marked, begin_of}
+use Rattle.hall.specs.Log.{Log, vehicle_at, step_at, blank, reached, marked, begin_of, steps_with}
 use Rattle.hall.specs.Rules.{Call, begin, finish, begin_answer, finish_answer, written}
 use Rattle.hall.specs.View.{steps_of, log_of}
 use Rattle.hall.specs.Hall.{hall_log}
@@ -65,7 +65,7 @@ with m vs = record { minute = m; vehicles = vs }
 module _ (b : Board) (c : Call) (Takes : Config → Type 0) (v n : ℕ) (p : StepRecord → Progress) (d new : Vehicle)
     (k : Marking (hall_log b) c Takes v n (p (step_at (hall_log b) v n)))
     (steps : steps_of new
-      ≡ set (steps_of (get_or b.vehicles v d)) n (reached (get_or (steps_of (get_or b.vehicles v d)) n blank) (p (get_or (steps_of (get_or b.vehicles v d)) n blank)))) where
+      ≡ steps_with (steps_of (get_or b.vehicles v d)) n (p (get_or (steps_of (get_or b.vehicles v d)) n blank))) where
   in_count : (v < b.count) × (v < length (take b.count b.vehicles))
   in_count = omega (arith, k.known, length-map (take b.count b.vehicles) steps_of, length-take b.count b.vehicles)
 
@@ -77,7 +77,7 @@ module _ (b : Board) (c : Call) (Takes : Config → Type 0) (v n : ℕ) (p : Ste
       ap (with b.minute) (ap (map steps_of) (take-set-lt b.count b.vehicles v new in_count.0)
       ∙ (map-set steps_of (take b.count b.vehicles) v new
       ∙ ap (set (hall_log b).vehicles v) (steps
-      ∙ ap (λ rs. set rs n (reached (get_or rs n blank) (p (get_or rs n blank)))) (sym row))))
+      ∙ ap (λ rs. steps_with rs n (p (get_or rs n blank))) (sym row))))
 
   pub wrote : Wrote b c Takes v new
   wrote = record {

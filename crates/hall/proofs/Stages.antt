@@ -8,10 +8,11 @@ use Rattle.hall.specs.declared.step.Progress.{Progress}
 use Rattle.hall.specs.declared.step.Progress.TheVariants.{Waiting, Running, Done}
 use Rattle.hall.specs.declared.step.StepRecord.{StepRecord}
 use Rattle.hall.specs.Job.{waits, runs, final, before, place_of, last_begin}
-use Rattle.hall.specs.Log.{Log, vehicle_at, step_at, blank, reached, begun, idle, finished, running, waiting, begin_of, next_step, running_step}
+use Rattle.hall.specs.Log.{Log, vehicle_at, step_at, blank, reached, begun, idle, finished, running, waiting, begin_of, next_step, running_step, steps_with}
 use Rattle.hall.specs.Lasting.{Lasting}
 use Rattle.hall.proofs.Leading.{leading_below, leading_at}
 use Rattle.hall.proofs.Keeping.{done_begun, done_idle, running_begun}
+use Rattle.hall.proofs.Spots.{length-steps_with, step-steps_with, other-steps_with}
 
 -- n steps are finished, and the others wait
 pub record Between (rs : List StepRecord) (n : ℕ) : Type 0 where
@@ -98,36 +99,25 @@ place_waits rs i h =
     by false true r n h = (refl, refl, cc)
     by false false r n h = let z : ◌≡◌ {A = ℕ} 0 1 = cc in absurd (omega arith)
 
--- one step is written
-module _ (rs : List StepRecord) (n : ℕ) (p : Progress) (lt : n < length rs) where
-  pub written_here : get_or (set rs n (reached (get_or rs n blank) p)) n blank ≡ reached (get_or rs n blank) p
-  written_here = get_or-set_same rs n (reached (get_or rs n blank) p) blank lt
-
-  pub written_other : (i : ℕ) → (i ≡ n → ⊥) → get_or (set rs n (reached (get_or rs n blank) p)) i blank ≡ get_or rs i blank
-  written_other i ne = get_or-set_other rs n i (reached (get_or rs n blank) p) blank ne
-
-  pub written_length : length (set rs n (reached (get_or rs n blank) p)) ≡ length rs
-  written_length = length-set rs n (reached (get_or rs n blank) p)
-
 -- a vehicle between two steps that begins one runs it
 pub begun_within : (rs : List StepRecord) (n m : ℕ) → n < length rs → Between rs n
-    → Within (set rs n (reached (get_or rs n blank) (Running m))) n m
+    → Within (steps_with rs n (Running m)) n m
 begun_within rs n m lt k = record {
-  few = omega (arith, written_length rs n (Running m) lt);
-  earlier = λ a l. ap finished (written_other rs n (Running m) lt a (λ e. omega arith)) ∙ k.earlier a l;
-  here = ap (λ r. r.progress) (written_here rs n (Running m) lt);
-  later = λ b l. ap begun (written_other rs n (Running m) lt b (λ e. omega arith)) ∙ k.later b (omega arith);
+  few = omega (arith, length-steps_with rs n (Running m));
+  earlier = λ a l. ap finished (other-steps_with rs n (Running m) a (λ e. omega arith)) ∙ k.earlier a l;
+  here = ap (λ r. r.progress) (step-steps_with rs n (Running m) lt);
+  later = λ b l. ap begun (other-steps_with rs n (Running m) b (λ e. omega arith)) ∙ k.later b (omega arith);
 }
 
 -- and one that finishes it is between two again
 pub finished_between : (rs : List StepRecord) (n m e : ℕ) → Within rs n m
-    → Between (set rs n (reached (get_or rs n blank) (Done m e))) (n + 1)
+    → Between (steps_with rs n (Done m e)) (n + 1)
 finished_between rs n m e k = record {
-  few = omega (arith, written_length rs n (Done m e) k.few, k.few);
+  few = omega (arith, length-steps_with rs n (Done m e), k.few);
   earlier = λ a l. ⊎_elim
-      (λ q. ap (λ i. finished (get_or (set rs n (reached (get_or rs n blank) (Done m e))) i blank)) q ∙ ap finished (written_here rs n (Done m e) k.few))
-      (λ ne. ap finished (written_other rs n (Done m e) k.few a ne) ∙ k.earlier a (omega arith)) (cases_eq a n);
-  later = λ b l. ap begun (written_other rs n (Done m e) k.few b (λ q. omega arith)) ∙ k.later b (omega arith);
+      (λ q. ap (λ i. finished (get_or (steps_with rs n (Done m e)) i blank)) q ∙ ap finished (step-steps_with rs n (Done m e) k.few))
+      (λ ne. ap finished (other-steps_with rs n (Done m e) a ne) ∙ k.earlier a (omega arith)) (cases_eq a n);
+  later = λ b l. ap begun (other-steps_with rs n (Done m e) b (λ q. omega arith)) ∙ k.later b (omega arith);
 }
 
 running_is : (p : Progress) → running p ≡ true → p ≡ Running (begin_of p)

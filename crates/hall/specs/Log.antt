@@ -85,6 +85,10 @@ taken s vs = list_any (occupies s) vs
 abbrev pub reached : StepRecord → Progress → StepRecord
 reached r p = record { station = r.station; length = r.length; progress = p }
 
+-- a vehicle's steps with another progress at step j
+abbrev pub steps_with : List StepRecord → ℕ → Progress → List StepRecord
+steps_with rs j p = slice_set rs j (reached (slice_index_or rs j blank) p)
+
 -- the log with another progress at step j of vehicle v
 abbrev pub marked : Log → ℕ → ℕ → Progress → Log
-marked l v j p = record { minute = l.minute; vehicles = slice_set l.vehicles v (slice_set (vehicle_at l v) j (reached (step_at l v j) p)) }
+marked l v j p = record { minute = l.minute; vehicles = slice_set l.vehicles v (steps_with (vehicle_at l v) j p) }

@@ -25,8 +25,7 @@ impl Progress {
     {
         match self {
             Progress::Waiting => 0,
-            Progress::Running { begin } => begin,
-            Progress::Done { begin, .. } => begin,
+            Progress::Running { begin } | Progress::Done { begin, .. } => begin,
         }
     }
 }

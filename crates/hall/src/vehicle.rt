@@ -1,6 +1,6 @@
 // A vehicle in the hall.
-ghost use Rattle.std.specs.Prelude.{◌≡◌, ◌<◌, ◌≤◌, map, length, slice_index_or, slice_set};
-ghost use Rattle.hall.specs.Log.{next_step, running_step, occupies, blank, reached, begin_of};
+ghost use Rattle.std.specs.Prelude.{◌≡◌, ◌<◌, ◌≤◌, map, length, slice_index_or};
+ghost use Rattle.hall.specs.Log.{next_step, running_step, occupies, blank, steps_with, begin_of};
 ghost use Rattle.hall.specs.Rules.{booked, step_fault, unless};
 ghost use Rattle.hall.specs.View.{steps_of, step_in};
 ghost use Rattle.hall.specs.declared.step.Progress.TheVariants.{Running, Done};
@@ -63,7 +63,7 @@ impl Vehicle {
     // Writes the begin of step `j`.
     pub(crate) fn start(&mut self, j: usize, minute: u32)
         requires { j < length (steps_of self.old) }
-        ensures steps { steps_of self.new ≡ slice_set (steps_of self.old) j (reached (slice_index_or (steps_of self.old) j blank) (Running minute)) }
+        ensures steps { steps_of self.new ≡ steps_with (steps_of self.old) j (Running minute) }
     {
         let record = self.steps.as_slice()[j];
         let progress = Progress::Running { begin: minute };
@@ -73,13 +73,11 @@ impl Vehicle {
     // Writes the end of step `j`.
     pub(crate) fn end(&mut self, j: usize, minute: u32)
         requires { j < length (steps_of self.old) }
-        ensures steps { steps_of self.new ≡ slice_set (steps_of self.old) j (reached (slice_index_or (steps_of self.old) j blank) (Done (begin_of (slice_index_or (steps_of self.old) j blank).progress) minute)) }
+        ensures steps { steps_of self.new ≡ steps_with (steps_of self.old) j (Done (begin_of (slice_index_or (steps_of self.old) j blank).progress) minute) }
     {
         let record = self.steps.as_slice()[j];
-        let progress = Progress::Done {
-            begin: record.progress.begin(),
-            end: minute,
-        };
+        let begin = record.progress.begin();
+        let progress = Progress::Done { begin, end: minute };
         self.steps.set(j, StepRecord { progress, ..record });
     }
 
