@@ -84,5 +84,9 @@ only_finishes l k v n z f =
     let r = place_running (vehicle_at l v) n f.ran in
     let since = within_last (vehicle_at l v) n (begin_of (step_at l v n).progress) (running_within l k v n r) in
     let long = late_enough (jobs_of l v) x.move n (clock_of l.minute (vehicle_at l v)) x.has (sym f.ran ∙ x.from) x.allowed in
-    finish_ok l v n (sym w.0) in-hall w.1
-    (omega (arith, long, since, k.begins v n, ap (λ s. s.length) (booked_step (vehicle_at l v) n)))
+    finish_ok l v n (record {
+      known = in-hall;
+      step = sym w.0;
+      within = w.1;
+      late = omega (arith, long, since, k.begins v n, ap (λ s. s.length) (booked_step (vehicle_at l v) n));
+    })
