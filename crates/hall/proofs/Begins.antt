@@ -3,11 +3,6 @@ use Rattle.std.proofs.Common.{◌≡◌, ℕ, ◌<◌, ◌≤◌, false, length,
 use Rattle.hall.specs.Log.{Log, vehicle_at, step_at, running_step, next_step, taken}
 use Rattle.hall.specs.Rules.{begin_answer}
 
-pub begin_ok : (l : Log) (v : ℕ) → v < length l.vehicles → length (vehicle_at l v) ≤ running_step (vehicle_at l v)
-    → next_step (vehicle_at l v) < length (vehicle_at l v) → taken (step_at l v (next_step (vehicle_at l v))).station l.vehicles ≡ false
-    → Ok (next_step (vehicle_at l v)) ≡ begin_answer l v
-begin_ok l v known none left free = grind arith
-
 -- what is known of a begin that is accepted
 pub record MayBegin (l : Log) (v n : ℕ) : Type 0 where
   pub known : v < length l.vehicles
@@ -18,3 +13,7 @@ pub record MayBegin (l : Log) (v n : ℕ) : Type 0 where
 
 pub may_begin : (l : Log) (v n : ℕ) → Ok n ≡ begin_answer l v → MayBegin l v n
 may_begin l v n h = record { known = grind arith; none_runs = grind arith; next = grind arith; left = grind arith; free = grind arith }
+
+-- and it is enough
+pub begin_ok : (l : Log) (v n : ℕ) → MayBegin l v n → Ok n ≡ begin_answer l v
+begin_ok l v n m = grind arith

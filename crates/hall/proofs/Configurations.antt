@@ -101,8 +101,8 @@ module _ (l : Log) (v j : ℕ) (p : Progress) (known : v < length l.vehicles) (o
       ∙ ap (λ t. cond t 0 (clock_of l.minute (vehicle_at l u))) (sym (cond-false (eqb u v) (m.resets tt) false (ne_eqb _ _ ne))))
       (cases_eq u v)
 
-  pub moves : Discrete (hall_automaton (jobs_of l)) (config_of l) (config_of (marked l v j p))
-  moves = record {
+  pub moves : Discrete (hall_automaton (jobs_of l)) (config_of l) (config_of (marked l v j p)) × ((config_of (marked l v j p)).state v ≡ m.to)
+  moves = (record {
     move = alone (config_of l).state v m;
     has = record {
       who = v;
@@ -118,10 +118,7 @@ module _ (l : Log) (v j : ℕ) (p : Progress) (known : v < length l.vehicles) (o
     allowed = allowed;
     enters = state_after;
     clocks = fun_ext (λ d. clock_after d.0);
-  }
-
-  pub moved_to : (config_of (marked l v j p)).state v ≡ m.to
-  moved_to = ap (λ q. q v) state_after ∙ put_here (config_of l).state v m.to v refl
+  }, ap (λ q. q v) state_after ∙ put_here (config_of l).state v m.to v refl)
 
 -- a discrete step of the composition that changes the state of vehicle v is one of its job
 pub record ByVehicle (jobs : ℕ → List Step) (x y : Config) (v : ℕ) : Type 0 where

@@ -10,7 +10,7 @@ use Rattle.hall.specs.Lasting.{Lasting}
 use Rattle.hall.specs.Log.{Log, vehicle_at, step_at, reached, marked, begin_of, least_time, steps_with}
 use Rattle.hall.specs.Rules.{finish_answer}
 use Rattle.hall.proofs.BeginSteps.{known_by_steps}
-use Rattle.hall.proofs.Configurations.{booked_step, place_running, moves, moved_to, by_vehicle}
+use Rattle.hall.proofs.Configurations.{booked_step, place_running, moves, by_vehicle}
 use Rattle.hall.proofs.Finishes.{MayFinish, finish_ok}
 use Rattle.hall.proofs.Keeping.{lasts_finish, finish_runs}
 use Rattle.hall.proofs.Stages.{Between, Within, finished_between, between_place, between_last, within_place, within_last, place_runs, running_within}
@@ -50,11 +50,8 @@ module _ (l : Log) (v n : ℕ) (k : Lasting l) (m : MayFinish l v n) where
   pub finishes : Finishes l v n (config_of (marked l v n (Done (begin_of (step_at l v n).progress) l.minute)))
   finishes =
       let p = Done (begin_of (step_at l v n).progress) l.minute in
-      record {
-        step = moves l v n p m.known k (lasts_finish l v n k m) (finishing (jobs_of l v) n) has from allowed to clock;
-        ran = from;
-        went_on = moved_to l v n p m.known k (lasts_finish l v n k m) (finishing (jobs_of l v) n) has from allowed to clock;
-      }
+      let s = moves l v n p m.known k (lasts_finish l v n k m) (finishing (jobs_of l v) n) has from allowed to clock in
+      record { step = s.0; ran = from; went_on = s.1 }
 
 before_runs : (c j i : ℕ) (p : Place) → p ≡ before c j → p ≡ runs i → ⊥
 before_runs c j i p a b = by (ltb j c) (sym b ∙ a)
