@@ -3,12 +3,12 @@ use Rattle.hall.specs.declared.step.Progress.TheVariants.{Running}
 use Rattle.hall.specs.Hall.{hall_log}
 use Rattle.hall.specs.Job.{Begins, config_of}
 use Rattle.hall.specs.Rules.{begin, begin_answer}
-use Rattle.hall.proofs.Answering.{accepted, refused_as, passed_on, exactly_none}
+use Rattle.hall.proofs.Answering.{accepted, exactly_none}
 use Rattle.hall.proofs.BeginSteps.{only_begins}
 use Rattle.hall.proofs.Kept.{kept}
 use Rattle.hall.proofs.Marks.{Wrote, begin_marks, wrote}
 use Rattle.hall.proofs.board.Board.begin.Goals as goal
-use Rattle.hall.proofs.board.Board.begin.Goals.{In_ok-next, After-start}
+use Rattle.hall.proofs.board.Board.begin.Goals.{After-start}
 
 pub overflow_cast-result : goal.overflow_cast-result
 overflow_cast-result c =
@@ -35,8 +35,7 @@ returns-clause-step c = (written (goal.at.returns-clause-step c).After-start).ta
 
 pub returns-in_err-next-clause-step : goal.returns-in_err-next-clause-step
 returns-in_err-next-clause-step c =
-    let b = c.args.self.now in
+    let l = hall_log c.args.self.now in
     let v = c.args.vehicle in
-    let p = passed_on c.from_residual.result _ c.from_residual.ensures.1 in
-    exactly_none (Begins (hall_log b) v) (begin_answer (hall_log b) v) (only_begins (hall_log b) (kept b) v) c.from_residual.result _ p
-    c.in_err-next.ensures (config_of (hall_log b))
+    exactly_none (Begins l v) (begin_answer l v) (only_begins l (kept c.args.self.now) v) c.from_residual.result _ c.from_residual.ensures.1
+    c.in_err-next.ensures (config_of l)

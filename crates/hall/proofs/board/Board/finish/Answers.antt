@@ -4,12 +4,12 @@ use Rattle.hall.specs.Hall.{hall_log}
 use Rattle.hall.specs.Log.{begin_of}
 use Rattle.hall.specs.Job.{Finishes, config_of}
 use Rattle.hall.specs.Rules.{finish, finish_answer}
-use Rattle.hall.proofs.Answering.{accepted, refused_as, passed_on, exactly_none}
+use Rattle.hall.proofs.Answering.{accepted, exactly_none}
 use Rattle.hall.proofs.FinishSteps.{only_finishes}
 use Rattle.hall.proofs.Kept.{kept}
 use Rattle.hall.proofs.Marks.{Wrote, finish_marks, wrote}
 use Rattle.hall.proofs.board.Board.finish.Goals as goal
-use Rattle.hall.proofs.board.Board.finish.Goals.{In_ok-running, After-end}
+use Rattle.hall.proofs.board.Board.finish.Goals.{After-end}
 
 pub overflow_cast-result : goal.overflow_cast-result
 overflow_cast-result c =
@@ -36,8 +36,7 @@ returns-clause-step c = (written (goal.at.returns-clause-step c).After-end).take
 
 pub returns-in_err-running-clause-step : goal.returns-in_err-running-clause-step
 returns-in_err-running-clause-step c =
-    let b = c.args.self.now in
+    let l = hall_log c.args.self.now in
     let v = c.args.vehicle in
-    let p = passed_on c.from_residual.result _ c.from_residual.ensures.1 in
-    exactly_none (Finishes (hall_log b) v) (finish_answer (hall_log b) v) (only_finishes (hall_log b) (kept b) v) c.from_residual.result _ p
-    c.in_err-running.ensures (config_of (hall_log b))
+    exactly_none (Finishes l v) (finish_answer l v) (only_finishes l (kept c.args.self.now) v) c.from_residual.result _ c.from_residual.ensures.1
+    c.in_err-running.ensures (config_of l)
