@@ -16,6 +16,5 @@ pub struct Board {
     count: usize,
     minute: u32,
     ghost few: { count ≤ 24 },
-    ghost day: { minute ≤ 1000000 },
     ghost lasting: { ∥ Lasting (log_of vehicles count minute) ∥₁ },
 }

@@ -1,8 +1,8 @@
 // A vehicle in the hall.
-ghost use Rattle.std.specs.Prelude.{◌≡◌, ◌<◌, ◌≤◌, map, length, slice_index_or};
-ghost use Rattle.hall.specs.Log.{next_step, running_step, occupies, blank, steps_with, begin_of};
+ghost use Rattle.std.specs.Prelude.{◌≡◌, ◌<◌, ◌≤◌, map, length, position, slice_index_or};
+ghost use Rattle.hall.specs.Log.{waiting, running, next_step, occupies, blank, steps_with, begin_of};
 ghost use Rattle.hall.specs.Rules.{booked, step_fault, unless};
-ghost use Rattle.hall.specs.View.{steps_of, step_in};
+ghost use Rattle.hall.specs.View.{steps_of};
 ghost use Rattle.hall.specs.declared.step.Progress.TheVariants.{Running, Done};
 
 use short::Short;
@@ -25,7 +25,7 @@ pub struct Vehicle {
 impl Vehicle {
     // The number of the next step to begin, where one is left.
     pub(crate) fn next(&self) -> Option<usize>
-        ensures { result ≡ step_in (length (steps_of self.now)) (next_step (steps_of self.now)) }
+        ensures { result ≡ position (λ r. waiting r.progress) (steps_of self.now) }
     {
         self.steps
             .as_slice()
@@ -42,7 +42,7 @@ impl Vehicle {
 
     // The number of the running step, where one runs.
     pub(crate) fn running(&self) -> Option<usize>
-        ensures { result ≡ step_in (length (steps_of self.now)) (running_step (steps_of self.now)) }
+        ensures { result ≡ position (λ r. running r.progress) (steps_of self.now) }
     {
         self.steps
             .as_slice()

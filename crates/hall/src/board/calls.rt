@@ -111,8 +111,7 @@ impl Board {
     {
         let minute = self.minute;
         let next = self.may_begin(vehicle)?;
-        let vehicles = &mut self.vehicles;
-        vehicles[vehicle as usize].start(next, minute);
+        self.vehicles[vehicle as usize].start(next, minute);
         Ok(next as u32)
     }
 
@@ -138,8 +137,7 @@ impl Board {
     {
         let minute = self.minute;
         let running = self.may_finish(vehicle)?;
-        let vehicles = &mut self.vehicles;
-        vehicles[vehicle as usize].end(running, minute);
+        self.vehicles[vehicle as usize].end(running, minute);
         Ok(running as u32)
     }
 

@@ -20,7 +20,7 @@ written c =
     let b = c.args.self.now in
     let v = c.args.vehicle in
     let n = c.in_ok-next.next in
-    wrote b (begin v) (Begins (hall_log b) v n) v n (λ r. Running c.args.self.now.minute) c.index-vehicles-vehicle.result c.start.new.self
+    wrote b (begin v) (Begins (hall_log b) v n) v n (λ r. Running c.args.self.now.minute) c.index-self-vehicle.result c.start.new.self
     (begin_marks (hall_log b) v n (kept b) c.in_ok-next.ensures) c.start.ensures.steps
 
 pub invariant_of-self-clause-lasting : goal.invariant_of-self-clause-lasting

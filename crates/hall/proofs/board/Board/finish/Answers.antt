@@ -21,7 +21,7 @@ written c =
     let b = c.args.self.now in
     let v = c.args.vehicle in
     let n = c.in_ok-running.running in
-    wrote b (finish v) (Finishes (hall_log b) v n) v n (λ r. Done (begin_of r.progress) c.args.self.now.minute) c.index-vehicles-vehicle.result c.end.new.self
+    wrote b (finish v) (Finishes (hall_log b) v n) v n (λ r. Done (begin_of r.progress) c.args.self.now.minute) c.index-self-vehicle.result c.end.new.self
     (finish_marks (hall_log b) v n (kept b) c.in_ok-running.ensures) c.end.ensures.steps
 
 pub invariant_of-self-clause-lasting : goal.invariant_of-self-clause-lasting
