@@ -1,12 +1,12 @@
 -- Begin is accepted exactly where the composition has that step.
-use Rattle.std.proofs.Common.{◌≡◌, ℕ, suc, ◌<◌, true, false, not, ◌&&◌, eqb, ltb, List, [], ◌∷◌, length, get_or, set, Some, Ok, sym, refl, ap, ◌∙◌, subst, inl, ⊎_elim, arith}
+use Rattle.std.proofs.Common.{◌≡◌, ℕ, suc, ◌<◌, true, false, not, ◌&&◌, eqb, ltb, List, [], ◌∷◌, length, get_or, Some, Ok, sym, refl, ap, ◌∙◌, subst, inl, ⊎_elim, arith}
 use Rattle.std.proofs.lemmas.List.{get_or_past, length-map}
 use Rattle.std.proofs.lemmas.Bool.{cases_lt, cases_eq, cases_Bool, cond-true, and_parts, or_from, both_ways, eqb-true, lt-ltb}
 use Rattle.hall.specs.declared.step.Progress.TheVariants.{Running}
 use Rattle.hall.specs.declared.step.StepRecord.{StepRecord}
 use Rattle.hall.specs.Job.{Place, waits, runs, beginning, station, Config, booking_of, jobs_of, place_of, clock_of, config_of, Begins}
 use Rattle.hall.specs.Lasting.{Lasting}
-use Rattle.hall.specs.Log.{Log, vehicle_at, step_at, blank, reached, marked, begun, idle, running, taken, occupies, begin_of, steps_with}
+use Rattle.hall.specs.Log.{Log, vehicle_at, step_at, blank, marked, begun, idle, running, taken, occupies, begin_of, steps_with}
 use Rattle.hall.specs.Rules.{begin_answer}
 use Rattle.hall.proofs.Begins.{MayBegin, begin_ok}
 use Rattle.hall.proofs.Configurations.{booked_step, moves, by_vehicle}

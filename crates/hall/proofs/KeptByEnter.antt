@@ -1,8 +1,7 @@
 -- Enter keeps what every board keeps.
-use Rattle.std.proofs.Common.{◌≡◌, ℕ, zero, suc, ◌+◌, ◌<◌, ◌≤◌, Bool, true, false, cond, not, ◌⊎◌, List, [], ◌∷◌, ◌++◌, map, length, get_or, Some, None, Option, sym, refl, ap, ◌∙◌, subst, inl, inr, ⊎_elim, arith}
+use Rattle.std.proofs.Common.{◌≡◌, ℕ, zero, suc, ◌+◌, ◌<◌, ◌≤◌, true, not, ◌⊎◌, List, [], ◌∷◌, ◌++◌, map, length, get_or, None, sym, refl, ap, ◌∙◌, subst, inl, inr, ⊎_elim, arith}
 use Rattle.std.proofs.lemmas.List.{get_or_past, length_push, length-map}
-use Rattle.std.proofs.lemmas.Bool.{both_ways, cases_lt, ltb-false}
-use Rattle.hall.specs.declared.fault.BoardFault.{BoardFault}
+use Rattle.std.proofs.lemmas.Bool.{both_ways, cases_lt}
 use Rattle.hall.specs.declared.step.Progress.TheVariants.{Waiting}
 use Rattle.hall.specs.declared.step.Step.{Step}
 use Rattle.hall.specs.declared.step.StepRecord.{StepRecord}

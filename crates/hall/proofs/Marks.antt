@@ -7,7 +7,7 @@ use Rattle.hall.specs.declared.step.Progress.{Progress}
 use Rattle.hall.specs.declared.step.Progress.TheVariants.{Running, Done}
 use Rattle.hall.specs.declared.step.StepRecord.{StepRecord}
 use Rattle.hall.specs.declared.vehicle.Vehicle.{Vehicle}
-use Rattle.hall.specs.Log.{Log, vehicle_at, step_at, blank, reached, marked, begin_of, steps_with}
+use Rattle.hall.specs.Log.{Log, vehicle_at, step_at, blank, marked, begin_of, steps_with}
 use Rattle.hall.specs.Rules.{Call, begin, finish, begin_answer, finish_answer, written}
 use Rattle.hall.specs.View.{steps_of, log_of}
 use Rattle.hall.specs.Hall.{hall_log}
@@ -18,7 +18,6 @@ use Rattle.hall.proofs.Begins.{may_begin}
 use Rattle.hall.proofs.Finishes.{may_finish}
 use Rattle.hall.proofs.FinishSteps.{finishes}
 use Rattle.hall.proofs.Keeping.{lasts_begin, lasts_finish}
-use Rattle.hall.proofs.Kept.{kept}
 
 -- the log l with progress p at step n of vehicle v: call c writes it, every board keeps it, and the composition's step leads there
 pub record Marking (l : Log) (c : Call) (Takes : Config → Type 0) (v n : ℕ) (p : Progress) : Type 0 where
@@ -65,7 +64,7 @@ with m vs = record { minute = m; vehicles = vs }
 module _ (b : Board) (c : Call) (Takes : Config → Type 0) (v n : ℕ) (p : StepRecord → Progress) (d new : Vehicle)
     (k : Marking (hall_log b) c Takes v n (p (step_at (hall_log b) v n)))
     (steps : steps_of new
-      ≡ steps_with (steps_of (get_or b.vehicles v d)) n (p (get_or (steps_of (get_or b.vehicles v d)) n blank))) where
+    ≡ steps_with (steps_of (get_or b.vehicles v d)) n (p (get_or (steps_of (get_or b.vehicles v d)) n blank))) where
   in_count : (v < b.count) × (v < length (take b.count b.vehicles))
   in_count = omega (arith, k.known, length-map (take b.count b.vehicles) steps_of, length-take b.count b.vehicles)
 

@@ -5,10 +5,9 @@ ghost use Rattle.hall.specs.Rules.{booked, step_fault, unless};
 ghost use Rattle.hall.specs.View.{steps_of};
 ghost use Rattle.hall.specs.declared.step.Progress.TheVariants.{Running, Done};
 
-use short::Short;
-
 use crate::fault::BoardFault;
 use crate::step::{Progress, Step, StepRecord};
+use short::Short;
 
 // Stations are numbered from 0 up to this one.
 const LAST_STATION: u32 = 15;
@@ -44,20 +43,20 @@ impl Vehicle {
     pub(crate) fn running(&self) -> Option<usize>
         ensures { result ≡ position (λ r. running r.progress) (steps_of self.now) }
     {
-        self.steps
-            .as_slice()
-            .iter()
-            .position(|record| matches!(record.progress, Progress::Running { .. }))
+        self.steps.as_slice().iter().position(|record| matches!(
+            record.progress,
+            Progress::Running { .. }
+        ))
     }
 
     // Whether a step of the vehicle runs on the station.
     pub(crate) fn occupies(&self, station: u32) -> bool
         ensures { result ≡ occupies station (steps_of self.now) }
     {
-        self.steps
-            .as_slice()
-            .iter()
-            .any(|record| matches!(record.progress, Progress::Running { .. }) && record.station == station)
+        self.steps.as_slice().iter().any(|record| matches!(
+            record.progress,
+            Progress::Running { .. }
+        ) && record.station == station)
     }
 
     // Writes the begin of step `j`.
