@@ -14,34 +14,22 @@ use Rattle.hall.proofs.Spots.{spot, same_size, same_fleet, ordered_more, follows
 
 -- a step has one of three kinds of progress
 pub begun_done : (p : Progress) → not (waiting p) ≡ true → running p ≡ false → done p ≡ true
-begun_done Waiting a b = a
-begun_done (Running t) a b = absurd (both_ways true b refl)
-begun_done (Done t u) a b = refl
+begun_done p a b = grind arith
 
 pub idle_running : (p : Progress) → not (running p) ≡ false → running p ≡ true
-idle_running Waiting h = absurd (both_ways true h refl)
-idle_running (Running b) h = refl
-idle_running (Done b e) h = absurd (both_ways true h refl)
+idle_running p h = grind arith
 
 pub running_begun : (p : Progress) → running p ≡ true → not (waiting p) ≡ true
-running_begun Waiting h = h
-running_begun (Running b) h = refl
-running_begun (Done b e) h = refl
+running_begun p h = grind arith
 
 pub done_begun : (p : Progress) → done p ≡ true → not (waiting p) ≡ true
-done_begun Waiting h = h
-done_begun (Running b) h = refl
-done_begun (Done b e) h = refl
+done_begun p h = grind arith
 
 pub done_idle : (p : Progress) → done p ≡ true → running p ≡ false
-done_idle Waiting h = refl
-done_idle (Running b) h = absurd (both_ways false refl h)
-done_idle (Done b e) h = refl
+done_idle p h = grind arith
 
 pub not_idle : (p : Progress) → not (running p) ≡ true → running p ≡ false
-not_idle Waiting h = refl
-not_idle (Running b) h = absurd (both_ways false refl h)
-not_idle (Done b e) h = refl
+not_idle p h = grind arith
 
 -- a free station has no running step
 free_row : (s : ℕ) (rs : List StepRecord) (i : ℕ) → occupies s rs ≡ false → running (get_or rs i blank).progress ≡ true
