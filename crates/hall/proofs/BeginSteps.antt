@@ -63,7 +63,7 @@ free_of_all s (v ∷ vs) h =
     or_from (occupies s v) (taken s vs) (free_of_row s v (h 0)) (free_of_all s vs (λ u. h (suc u)))
 
 waits_runs : (p : Place) (n : ℕ) → p ≡ waits n → p ≡ runs n → ⊥
-waits_runs p n a b = let z : ◌≡◌ {A = ℕ} 0 1 = cc in omega arith
+waits_runs p n a b = cc
 
 -- the vehicle of a state other than final is in the hall
 pub known_by_steps : (l : Log) (v i : ℕ) → i < length (vehicle_at l v) → v < length l.vehicles

@@ -55,9 +55,9 @@ same_jobs l v j p known =
 
 -- a job that uses a station runs a step on it
 pub uses_runs : (ss : List Step) (p : Place) (s : ℕ) → station ss p ≡ Some s → (i : ℕ) × (p ≡ runs i) × ((step_of ss i).station ≡ s)
-uses_runs ss (waits i) s h = let z : ◌≡◌ {A = ℕ} 0 1 = cc in absurd (omega arith)
+uses_runs ss (waits i) s h = cc
 uses_runs ss (runs i) s h = (i, refl, cc)
-uses_runs ss final s h = let z : ◌≡◌ {A = ℕ} 0 1 = cc in absurd (omega arith)
+uses_runs ss final s h = cc
 
 pub place_running : (rs : List StepRecord) (i : ℕ) → place_of rs ≡ runs i → running (get_or rs i blank).progress ≡ true
 place_running rs i h =

@@ -54,11 +54,7 @@ module _ (l : Log) (v n : ℕ) (k : Lasting l) (m : MayFinish l v n) where
       record { step = s.0; ran = from; went_on = s.1 }
 
 before_runs : (c j i : ℕ) (p : Place) → p ≡ before c j → p ≡ runs i → ⊥
-before_runs c j i p a b = by (ltb j c) (sym b ∙ a)
-  where
-    by : (t : Bool) → runs i ≡ cond t (waits j) final → ⊥
-    by true h = let z : ◌≡◌ {A = ℕ} 0 1 = cc in omega arith
-    by false h = let z : ◌≡◌ {A = ℕ} 0 1 = cc in omega arith
+before_runs c j i p a b = grind arith
 
 -- a job leaves the state in which it runs step n only once the step's least time has passed
 late_enough : (ss : List Step) (m : Transition Place (Unit {0})) (n c : ℕ) → JobHas ss m → runs n ≡ m.from → m.guard (λ d. c) ≡ true

@@ -26,9 +26,7 @@ pub record Within (rs : List StepRecord) (n m : ℕ) : Type 0 where
   pub later : (b : ℕ) → n < b → begun (get_or rs b blank) ≡ false
 
 waiting_idle : (p : Progress) → not (waiting p) ≡ false → not (running p) ≡ true
-waiting_idle Waiting h = refl
-waiting_idle (Running b) h = absurd (both_ways true h refl)
-waiting_idle (Done b e) h = refl
+waiting_idle p h = grind arith
 
 module _ (rs : List StepRecord) (n : ℕ) (k : Between rs n) where
   pub between_next : next_step rs ≡ n
@@ -43,9 +41,7 @@ module _ (rs : List StepRecord) (n : ℕ) (k : Between rs n) where
   between_running = prefix_len_is idle rs (length rs) blank (omega arith) (λ i lt. rests i) (λ lt. absurd (omega arith))
 
   pub between_place : place_of rs ≡ before (length rs) n
-  between_place =
-      let t : ltb (running_step rs) (length rs) ≡ false = le-ltb _ _ (omega (arith, between_running)) in
-      simp t (ap (before (length rs)) between_next)
+  between_place = let e = between_running in let f = between_next in grind arith
 
 module _ (rs : List StepRecord) (n m : ℕ) (k : Within rs n m) where
   pub within_next : next_step rs ≡ n + 1
@@ -61,9 +57,7 @@ module _ (rs : List StepRecord) (n m : ℕ) (k : Within rs n m) where
       (λ lt. ap (λ p. not (running p)) k.here)
 
   pub within_place : place_of rs ≡ runs n
-  within_place =
-      let t : ltb (running_step rs) (length rs) ≡ true = lt-ltb _ _ (omega (arith, within_running, k.few)) in
-      simp t (ap runs within_running)
+  within_place = let e = within_running in grind arith
 
   pub within_last : last_begin rs ≡ m
   within_last =
@@ -78,24 +72,10 @@ between_last rs n k =
 
 -- which place it is tells which step runs or comes next
 pub place_runs : (rs : List StepRecord) (i : ℕ) → place_of rs ≡ runs i → (running_step rs ≡ i) × (i < length rs)
-place_runs rs i h =
-    let k = by (ltb (running_step rs) (length rs)) (ltb (next_step rs) (length rs)) (running_step rs) (next_step rs) h in
-    (k.1, omega (arith, ltb-true _ _ k.0, k.1))
-  where
-    by : (b c : Bool) (r n : ℕ) → cond b (runs r) (cond c (waits n) final) ≡ runs i → (b ≡ true) × (r ≡ i)
-    by true c r n h = (refl, cc)
-    by false true r n h = let z : ◌≡◌ {A = ℕ} 0 1 = cc in absurd (omega arith)
-    by false false r n h = let z : ◌≡◌ {A = ℕ} 0 1 = cc in absurd (omega arith)
+place_runs rs i h = (grind arith, grind arith)
 
 pub place_waits : (rs : List StepRecord) (i : ℕ) → place_of rs ≡ waits i → (length rs ≤ running_step rs) × (next_step rs ≡ i) × (i < length rs)
-place_waits rs i h =
-    let k = by (ltb (running_step rs) (length rs)) (ltb (next_step rs) (length rs)) (running_step rs) (next_step rs) h in
-    (ltb-false _ _ k.0, k.2, omega (arith, ltb-true _ _ k.1, k.2))
-  where
-    by : (b c : Bool) (r n : ℕ) → cond b (runs r) (cond c (waits n) final) ≡ waits i → (b ≡ false) × (c ≡ true) × (n ≡ i)
-    by true c r n h = let z : ◌≡◌ {A = ℕ} 0 1 = cc in absurd (omega arith)
-    by false true r n h = (refl, refl, cc)
-    by false false r n h = let z : ◌≡◌ {A = ℕ} 0 1 = cc in absurd (omega arith)
+place_waits rs i h = (grind arith, grind arith, grind arith)
 
 -- a vehicle between two steps that begins one runs it
 pub begun_within : (rs : List StepRecord) (n m : ℕ) → n < length rs → Between rs n
@@ -119,9 +99,7 @@ finished_between rs n m e k = record {
 }
 
 running_is : (p : Progress) → running p ≡ true → p ≡ Running (begin_of p)
-running_is Waiting h = absurd (both_ways false refl h)
-running_is (Running b) h = refl
-running_is (Done b e) h = absurd (both_ways false refl h)
+running_is p h = grind arith
 
 -- a vehicle of which a step runs, runs that one
 pub running_within : (l : Log) → Lasting l → (u i : ℕ) → running (step_at l u i).progress ≡ true
