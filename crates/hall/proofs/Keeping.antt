@@ -60,19 +60,19 @@ over_first a b = finished a && leb (end_of a.progress) (begin_of b.progress)
 
 clear_left : (a b : StepRecord) → over_first a b ≡ true → clear a b ≡ true
 unfolding over_first
-clear_left a b h = or_left (over_first a b) (over_first b a) h
+clear_left a b h = grind arith
 
 clear_right : (a b : StepRecord) → over_first b a ≡ true → clear a b ≡ true
 unfolding over_first
-clear_right a b h = or_right (over_first a b) (over_first b a) h
+clear_right a b h = grind arith
 
 clear_cases : (a b : StepRecord) → clear a b ≡ true → (over_first a b ≡ true) ⊎ (over_first b a ≡ true)
 unfolding over_first
-clear_cases a b h = or_cases (over_first a b) (over_first b a) h
+clear_cases a b h = grind arith
 
 over_done : (a b : StepRecord) → over_first a b ≡ true → finished a ≡ true
 unfolding over_first
-over_done a b h = (and_parts (finished a) (leb (end_of a.progress) (begin_of b.progress)) h).0
+over_done a b h = grind arith
 
 -- the parts of what is kept that one changed step leaves to be shown
 record Changes (l : Log) (v n : ℕ) (r : StepRecord) : Type 0 where

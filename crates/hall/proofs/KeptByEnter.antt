@@ -58,12 +58,10 @@ quiet_enter (v ∷ vs) ss (suc u) i = quiet_enter vs ss u i
 
 -- a step that is begun, before or after, is the same
 same_after : (s s' : StepRecord) → Quiet s s' → begun s' ≡ true → s' ≡ s
-same_after s s' (inl e) h = e
-same_after s s' (inr w) h = absurd (both_ways _ (ap (λ p. not (waiting p)) w.0) h)
+same_after s s' q h = grind arith
 
 same_before : (s s' : StepRecord) → Quiet s s' → begun s ≡ true → s' ≡ s
-same_before s s' (inl e) h = e
-same_before s s' (inr w) h = absurd (both_ways _ (ap (λ p. not (waiting p)) w.1) h)
+same_before s s' q h = grind arith
 
 -- what holds of minutes that are 0 or recorded
 minute_same : (f : StepRecord → ℕ) (s s' : StepRecord) → ((r : StepRecord) → r.progress ≡ Waiting → f r ≡ 0) → Quiet s s' → f s' ≤ f s
