@@ -1,11 +1,11 @@
 -- Finish is accepted exactly where the composition has that step.
-use Rattle.std.proofs.Common.{◌≡◌, ℕ, ◌+◌, ◌-◌, ◌≤◌, Bool, true, false, cond, ltb, leb, List, length, Ok, sym, refl, ap, ◌∙◌, inr, ⊎_elim, arith}
+use Rattle.std.proofs.Common.{◌≡◌, ℕ, ◌+◌, ◌-◌, ◌≤◌, true, leb, List, length, Ok, sym, refl, ap, ◌∙◌, inr, ⊎_elim, arith}
 use Rattle.std.proofs.lemmas.List.{length-map}
 use Rattle.std.proofs.lemmas.Bool.{le-leb, leb-true}
 use Rattle.hall.specs.declared.step.Progress.TheVariants.{Done}
 use Rattle.hall.specs.declared.step.Step.{Step}
 use Rattle.hall.specs.Automaton.{Transition}
-use Rattle.hall.specs.Job.{Place, waits, runs, final, before, step_of, finishing, JobHas, Config, booking_of, jobs_of, place_of, clock_of, config_of, Finishes}
+use Rattle.hall.specs.Job.{Place, waits, runs, before, step_of, finishing, JobHas, Config, booking_of, jobs_of, place_of, clock_of, config_of, Finishes}
 use Rattle.hall.specs.Lasting.{Lasting}
 use Rattle.hall.specs.Log.{Log, vehicle_at, step_at, marked, begin_of, least_time, steps_with}
 use Rattle.hall.specs.Rules.{finish_answer}

@@ -1,11 +1,11 @@
 -- Enter keeps what every board keeps.
-use Rattle.std.proofs.Common.{◌≡◌, ℕ, zero, suc, ◌+◌, ◌<◌, ◌≤◌, true, not, ◌⊎◌, List, [], ◌∷◌, ◌++◌, map, length, get_or, None, sym, refl, ap, ◌∙◌, subst, inl, inr, ⊎_elim, arith}
+use Rattle.std.proofs.Common.{◌≡◌, ℕ, zero, suc, ◌+◌, ◌<◌, ◌≤◌, true, ◌⊎◌, List, [], ◌∷◌, ◌++◌, map, length, get_or, None, sym, refl, ap, ◌∙◌, subst, inl, inr, ⊎_elim, arith}
 use Rattle.std.proofs.lemmas.List.{get_or_past, length_push, length-map}
-use Rattle.std.proofs.lemmas.Bool.{both_ways, cases_lt}
+use Rattle.std.proofs.lemmas.Bool.{cases_lt}
 use Rattle.hall.specs.declared.step.Progress.TheVariants.{Waiting}
 use Rattle.hall.specs.declared.step.Step.{Step}
 use Rattle.hall.specs.declared.step.StepRecord.{StepRecord}
-use Rattle.hall.specs.Log.{Log, step_at, blank, waiting, running, begun, finished, begin_of, end_of, least_time}
+use Rattle.hall.specs.Log.{Log, step_at, blank, running, begun, finished, begin_of, end_of, least_time}
 use Rattle.hall.specs.Rules.{step_fault, enter_log, booked}
 use Rattle.hall.specs.Lasting.{Lasting, clear}
 use Rattle.hall.proofs.Keeping.{running_begun, done_begun}

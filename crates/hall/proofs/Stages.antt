@@ -1,12 +1,12 @@
 -- A vehicle is between two steps, or runs one: what then is its next step, its place and its clock.
-use Rattle.std.proofs.Common.{◌≡◌, ℕ, ◌+◌, ◌-◌, ◌<◌, ◌≤◌, Bool, true, false, cond, not, ltb, List, length, get_or, sym, refl, ap, ◌∙◌, ⊎_elim, arith}
+use Rattle.std.proofs.Common.{◌≡◌, ℕ, ◌+◌, ◌-◌, ◌<◌, ◌≤◌, true, false, not, List, length, get_or, sym, refl, ap, ◌∙◌, ⊎_elim, arith}
 use Rattle.std.proofs.lemmas.List.{get_or_past}
 use Rattle.std.proofs.lemmas.List.Sums.{prefix_len_is}
-use Rattle.std.proofs.lemmas.Bool.{cases_lt, cases_eq, cases_Bool, both_ways, lt-ltb, le-ltb, ltb-true, ltb-false}
+use Rattle.std.proofs.lemmas.Bool.{cases_lt, cases_eq, cases_Bool, both_ways}
 use Rattle.hall.specs.declared.step.Progress.{Progress}
-use Rattle.hall.specs.declared.step.Progress.TheVariants.{Waiting, Running, Done}
+use Rattle.hall.specs.declared.step.Progress.TheVariants.{Running, Done}
 use Rattle.hall.specs.declared.step.StepRecord.{StepRecord}
-use Rattle.hall.specs.Job.{waits, runs, final, before, place_of, last_begin}
+use Rattle.hall.specs.Job.{waits, runs, before, place_of, last_begin}
 use Rattle.hall.specs.Log.{Log, vehicle_at, step_at, blank, begun, idle, finished, running, waiting, begin_of, next_step, running_step, steps_with}
 use Rattle.hall.specs.Lasting.{Lasting}
 use Rattle.hall.proofs.Keeping.{done_begun, done_idle, running_begun}
