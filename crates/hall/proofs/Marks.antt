@@ -51,8 +51,9 @@ module _ (l : Log) (v n : ℕ) (k : Lasting l) where
         takes = finishes l v n k m;
       }
 
--- the board with `new` as the record of vehicle v: its log is what call c writes, is kept, and is where the composition's step leads
-pub record Wrote (b : Board) (c : Call) (Takes : Config → Type 0) (v : ℕ) (new : Vehicle) : Type 0 where
+-- the board with `new` as the record of vehicle v, where step n was written: its log is what call c writes, is kept, and is where the composition's step leads
+pub record Wrote (b : Board) (c : Call) (Takes : Config → Type 0) (v n : ℕ) (new : Vehicle) : Type 0 where
+  pub few : n < 8
   pub log : log_of (set b.vehicles v new) b.count b.minute ≡ written (hall_log b) c
   pub lasts : ∥ Lasting (log_of (set b.vehicles v new) b.count b.minute) ∥₁
   pub takes : Takes (config_of (log_of (set b.vehicles v new) b.count b.minute))
@@ -78,8 +79,9 @@ module _ (b : Board) (c : Call) (Takes : Config → Type 0) (v n : ℕ) (p : Ste
       ∙ ap (set (hall_log b).vehicles v) (steps
       ∙ ap (λ rs. steps_with rs n (p (get_or rs n blank))) (sym row))))
 
-  pub wrote : Wrote b c Takes v new
+  pub wrote : Wrote b c Takes v n new
   wrote = record {
+    few = k.few;
     log = marks ∙ k.log;
     lasts = subst (λ l. ∥ Lasting l ∥₁) (sym marks) ∣ k.lasts ∣₁;
     takes = subst (λ l. Takes (config_of l)) (sym marks) k.takes;

@@ -72,7 +72,8 @@ impl Vehicle {
     // Writes the end of step `j`.
     pub(crate) fn end(&mut self, j: usize, minute: u32)
         requires { j < length (steps_of self.old) }
-        ensures steps { steps_of self.new ≡ steps_with (steps_of self.old) j (Done (begin_of (slice_index_or (steps_of self.old) j blank).progress) minute) }
+        ensures steps { steps_of self.new
+            ≡ steps_with (steps_of self.old) j (Done (begin_of (slice_index_or (steps_of self.old) j blank).progress) minute) }
     {
         let record = self.steps.as_slice()[j];
         let begin = record.progress.begin();
