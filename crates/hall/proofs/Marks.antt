@@ -1,5 +1,5 @@
 -- What begin and finish write into the table is what the rules write into the log.
-use Rattle.std.proofs.Common.{◌≡◌, ℕ, ◌<◌, List, [], map, length, get_or, take, set, Ok, sym, ap, ◌∙◌, subst, arith}
+use Rattle.std.proofs.Common.{◌≡◌, ℕ, ◌<◌, [], map, length, get_or, take, set, Ok, sym, ap, ◌∙◌, subst, arith}
 use Rattle.std.proofs.Math.Seq.{take-set-lt}
 use Rattle.std.proofs.lemmas.List.{get_or-map, get_or-take, length-map, length-take, map-set}
 use Rattle.hall.specs.declared.board.Board.{Board}
@@ -15,6 +15,7 @@ use Rattle.hall.specs.Job.{Config, config_of, Begins, Finishes}
 use Rattle.hall.specs.Lasting.{Lasting}
 use Rattle.hall.proofs.BeginSteps.{begins}
 use Rattle.hall.proofs.Begins.{may_begin}
+use Rattle.hall.proofs.Enters.{log}
 use Rattle.hall.proofs.Finishes.{may_finish}
 use Rattle.hall.proofs.FinishSteps.{finishes}
 use Rattle.hall.proofs.Keeping.{lasts_begin, lasts_finish}
@@ -58,9 +59,6 @@ pub record Wrote (b : Board) (c : Call) (Takes : Config → Type 0) (v n : ℕ) 
   pub lasts : ∥ Lasting (log_of (set b.vehicles v new) b.count b.minute) ∥₁
   pub takes : Takes (config_of (log_of (set b.vehicles v new) b.count b.minute))
 
-abbrev with : ℕ → List (List StepRecord) → Log
-with m vs = record { minute = m; vehicles = vs }
-
 -- so it is where the record's step n has got that progress
 module _ (b : Board) (c : Call) (Takes : Config → Type 0) (v n : ℕ) (p : StepRecord → Progress) (d new : Vehicle)
     (k : Marking (hall_log b) c Takes v n (p (step_at (hall_log b) v n)))
@@ -74,7 +72,7 @@ module _ (b : Board) (c : Call) (Takes : Config → Type 0) (v n : ℕ) (p : Ste
 
   marks : log_of (set b.vehicles v new) b.count b.minute ≡ marked (hall_log b) v n (p (step_at (hall_log b) v n))
   marks =
-      ap (with b.minute) (ap (map steps_of) (take-set-lt b.count b.vehicles v new in_count.0)
+      ap (log b.minute) (ap (map steps_of) (take-set-lt b.count b.vehicles v new in_count.0)
       ∙ (map-set steps_of (take b.count b.vehicles) v new
       ∙ ap (set (hall_log b).vehicles v) (steps
       ∙ ap (λ rs. steps_with rs n (p (get_or rs n blank))) (sym row))))
