@@ -1,12 +1,11 @@
 -- Enter keeps what every board keeps.
-use Rattle.std.proofs.Common.{◌≡◌, ℕ, zero, suc, ◌+◌, ◌<◌, ◌≤◌, Bool, true, false, cond, not, ◌⊎◌, List, [], ◌∷◌, ◌++◌, map, length, get_or, Some, None, Option, sym, refl, ap, ◌∙◌, subst, inl, inr, ⊎_elim, arith}
+use Rattle.std.proofs.Common.{◌≡◌, ℕ, zero, suc, ◌+◌, ◌<◌, ◌≤◌, true, ◌⊎◌, List, [], ◌∷◌, ◌++◌, map, length, get_or, None, sym, refl, ap, ◌∙◌, subst, inl, inr, ⊎_elim, arith}
 use Rattle.std.proofs.lemmas.List.{get_or_past, length_push, length-map}
-use Rattle.std.proofs.lemmas.Bool.{both_ways, cases_lt, ltb-false}
-use Rattle.hall.specs.declared.fault.BoardFault.{BoardFault}
+use Rattle.std.proofs.lemmas.Bool.{cases_lt}
 use Rattle.hall.specs.declared.step.Progress.TheVariants.{Waiting}
 use Rattle.hall.specs.declared.step.Step.{Step}
 use Rattle.hall.specs.declared.step.StepRecord.{StepRecord}
-use Rattle.hall.specs.Log.{Log, step_at, blank, waiting, running, begun, finished, begin_of, end_of, least_time}
+use Rattle.hall.specs.Log.{Log, step_at, blank, running, begun, finished, begin_of, end_of, least_time}
 use Rattle.hall.specs.Rules.{step_fault, enter_log, booked}
 use Rattle.hall.specs.Lasting.{Lasting, clear}
 use Rattle.hall.proofs.Keeping.{running_begun, done_begun}
@@ -17,16 +16,8 @@ record Within (s : StepRecord) : Type 0 where
   shortest : 1 ≤ s.length
   longest : s.length ≤ 1440
 
-passed : (b : Bool) (e : BoardFault) (rest : Option BoardFault) → cond b (Some e) rest ≡ None → (b ≡ false) × (rest ≡ None)
-passed true e rest h = let z : ◌≡◌ {A = ℕ} 0 1 = cc in absurd (omega arith)
-passed false e rest h = (refl, h)
-
 first_within : (k : ℕ) (s : Step) (ss : List Step) → step_fault k (s ∷ ss) ≡ None → Within (booked s) × (step_fault (k + 1) ss ≡ None)
-first_within k s ss h =
-    let a = passed _ _ _ h in
-    let b = passed _ _ _ a.1 in
-    let c = passed _ _ _ b.1 in
-    (record { placed = ltb-false _ _ a.0; shortest = ltb-false _ _ b.0; longest = ltb-false _ _ c.0 }, c.1)
+first_within k s ss h = (record { placed = grind arith; shortest = grind arith; longest = grind arith }, grind arith)
 
 -- the steps of a booking without a fault are within the limits
 within : (k : ℕ) (ss : List Step) → step_fault k ss ≡ None → (j : ℕ) → j < length (map booked ss) → Within (get_or (map booked ss) j blank)
@@ -67,12 +58,10 @@ quiet_enter (v ∷ vs) ss (suc u) i = quiet_enter vs ss u i
 
 -- a step that is begun, before or after, is the same
 same_after : (s s' : StepRecord) → Quiet s s' → begun s' ≡ true → s' ≡ s
-same_after s s' (inl e) h = e
-same_after s s' (inr w) h = absurd (both_ways _ (ap (λ p. not (waiting p)) w.0) h)
+same_after s s' q h = grind arith
 
 same_before : (s s' : StepRecord) → Quiet s s' → begun s ≡ true → s' ≡ s
-same_before s s' (inl e) h = e
-same_before s s' (inr w) h = absurd (both_ways _ (ap (λ p. not (waiting p)) w.1) h)
+same_before s s' q h = grind arith
 
 -- what holds of minutes that are 0 or recorded
 minute_same : (f : StepRecord → ℕ) (s s' : StepRecord) → ((r : StepRecord) → r.progress ≡ Waiting → f r ≡ 0) → Quiet s s' → f s' ≤ f s
