@@ -7,6 +7,7 @@ use Rattle.sheet.specs.declared.fault.LineFault.TheVariants.{Number, FieldCount}
 use Rattle.sheet.specs.declared.kind.Kind.{Kind}
 use Rattle.sheet.specs.Reading.{kind_of, count_fits, offset_of, value_of, spotted, on_ok, value_next, values_of, call_for, fields_read, NumbersSpotted}
 use Rattle.sheet.proofs.Fields.{offset_of_none, offset_of_more}
+use Rattle.sheet.proofs.Readings.{one_byte}
 
 -- what is done with an answer leaves its fault
 fault_of : {X Y : Type 0} (f : X → Y) (r : Result X LineFault) (x : LineFault) → on_ok f r ≡ Err x → r ≡ Err x
@@ -44,12 +45,6 @@ values_at : (kind : Kind) (k at : ℕ) (gs : List (List ℕ)) (e : NumberFault) 
 values_at kind k at [] e j o h = let z : ◌≡◌ {A = ℕ} 0 1 = cc in absurd (omega arith)
 values_at kind k at (f ∷ gs) e j o h =
     by_value f gs k at (value_of kind k f) (values_of kind (k + 1) (at + length f + 1) gs) e j o h (values_at kind (k + 1) (at + length f + 1) gs e j o)
-
--- a field that names a kind has one byte
-one_byte : (f : List ℕ) (k : Kind) → kind_of f ≡ Some k → length f ≡ 1
-one_byte [] k h = let z : ◌≡◌ {A = ℕ} 0 1 = cc in absurd (omega arith)
-one_byte (b ∷ []) k h = refl
-one_byte (b ∷ c ∷ bs) k h = let z : ◌≡◌ {A = ℕ} 0 1 = cc in absurd (omega arith)
 
 -- the fields of a line, the first of which is the kind
 spotted_in : (fs : List (List ℕ)) (k : Kind) → kind_of (get_or fs 0 []) ≡ Some k → (e : NumberFault) (j o : ℕ)

@@ -1,6 +1,5 @@
 -- The numbers by which a fault is told, and a fault with its context.
-use Rattle.std.specs.Prelude.{ℕ, Result}
-use Rattle.std.specs.Result.{result_map_both}
+use Rattle.std.specs.Prelude.{ℕ}
 use Rattle.hall.specs.Faults.{refusal_of, field_of}
 use Rattle.sheet.specs.declared.fault.FaultReport.{FaultReport}
 use Rattle.sheet.specs.declared.fault.LineFault.{LineFault}
@@ -24,7 +23,3 @@ abbrev pub sheet_report_of : SheetFault → FaultReport
 sheet_report_of TooLong = whole_report 0 4 5
 sheet_report_of NoRoom = whole_report 0 4 35
 sheet_report_of (AtLine k f) = report_of k f
-
--- an answer with a context x beside its fault
-abbrev pub beside_of : {X T E : Type 0} → X → Result T E → Result T (X × E)
-beside_of x r = result_map_both (λ n. n) (λ e. (x, e)) r

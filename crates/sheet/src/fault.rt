@@ -1,6 +1,6 @@
 // Why a line or a sheet is refused, and the numbers by which that is told.
 ghost use Rattle.std.specs.Prelude.{◌≡◌};
-ghost use Rattle.sheet.specs.Faults.{beside_of, whole_report, report_of, sheet_report_of};
+ghost use Rattle.sheet.specs.Faults.{whole_report, report_of, sheet_report_of};
 ghost use Rattle.sheet.specs.declared.fault.LineFault.TheVariants as lines;
 ghost use Rattle.sheet.specs.declared.fault.SheetFault.TheVariants as sheets;
 
@@ -140,15 +140,5 @@ impl From<PrintFault> for SheetFault {
 
     fn from(_e: PrintFault) -> SheetFault {
         SheetFault::NoRoom
-    }
-}
-
-// The answer, with the context of its fault put beside the fault.
-pub(crate) fn beside<X: Drop, T, E>(context: X, answer: Result<T, E>) -> Result<T, (X, E)>
-    ensures { result ≡ beside_of context answer }
-{
-    match answer {
-        Ok(value) => Ok(value),
-        Err(fault) => Err((context, fault)),
     }
 }
