@@ -1,5 +1,5 @@
 -- A text that is printed into a place with room for it, and then added to what is shown.
-use Rattle.std.proofs.Common.{◌≡◌, ℕ, ◌-◌, ◌≤◌, cond, leb, List, ◌++◌, length, take, is_ok, IfOk, Ok, Err, Result, refl, ap, ◌∙◌, arith}
+use Rattle.std.proofs.Common.{◌≡◌, ℕ, ◌≤◌, cond, leb, List, ◌++◌, length, take, is_ok, IfOk, Ok, Err, Result, refl, ap, ◌∙◌, arith}
 use Rattle.std.proofs.lemmas.List.{take_at}
 use Rattle.std.proofs.lemmas.Bool.{cond-true, le-leb}
 use Rattle.sheet.specs.Texts.{sheet_answer}
@@ -24,11 +24,10 @@ not_refused xs t f e room = ok_err (length t) f (e ∙ ap (λ d. sheet_answer d.
 
 -- the place's front is the text
 pub front : (xs t : List ℕ) (n : ℕ) (place : List ℕ) → Ok n ≡ sheet_answer (printed_into t xs).0 → place ≡ (printed_into t xs).1
-    → length t ≤ length xs → take (n - 0) place ≡ t
+    → length t ≤ length xs → take n place ≡ t
 unfolding put_at
 front xs t n place e q room =
-    let c : n - 0 ≡ length t = omega (arith, counted xs t n e room) in
-    ap (λ k. take k place) c ∙ (ap (take (length t)) (q ∙ ap (λ d. d.1) (printed xs t room)) ∙ take_at t _ (length t) refl)
+    ap (λ k. take k place) (counted xs t n e room) ∙ (ap (take (length t)) (q ∙ ap (λ d. d.1) (printed xs t room)) ∙ take_at t _ (length t) refl)
 
 -- where there was memory, what was added stands at the end
 pub added : {T E : Type 0} (r : Result T E) (old new more t : List ℕ) → new ≡ cond (is_ok r) (old ++ more) old → more ≡ t
