@@ -21,7 +21,7 @@ type Numbers = (usize, u32, u32, usize, usize);
 fn numbers(report: FaultReport) -> Numbers {
     (
         report.line,
-        report.layer,
+        report.layer as u32,
         report.refusal,
         report.field,
         report.offset,

@@ -9,12 +9,12 @@ use Rattle.sheet.specs.declared.fault.FaultReport.{FaultReport}
 use Rattle.sheet.specs.declared.fault.SheetFault.{SheetFault}
 use Rattle.sheet.specs.declared.fault.SheetFault.TheVariants.{NoRoom}
 use Rattle.sheet.specs.declared.run.Entry.{Entry}
-use Rattle.sheet.specs.Faults.{sheet_report_of}
+use Rattle.sheet.specs.Faults.{layer_number, sheet_report_of}
 use Rattle.sheet.specs.Letters.{letter_of}
 
 -- the numbers of a fault, in the order in which they are printed
 abbrev pub fault_cells : FaultReport → List Cell
-fault_cells r = Number r.line ∷ Number r.layer ∷ Number r.refusal ∷ Number r.field ∷ Number r.offset ∷ []
+fault_cells r = Number r.line ∷ Number (layer_number r.layer) ∷ Number r.refusal ∷ Number r.field ∷ Number r.offset ∷ []
 
 -- the letter E and the numbers of a fault
 unfoldable pub fault_text : SheetFault → List ℕ

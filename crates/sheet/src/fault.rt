@@ -32,18 +32,27 @@ pub enum SheetFault {
     AtLine { line: usize, fault: LineFault },
 }
 
-// The numbers by which a fault is told. The layers are 1 the text, 2 the record, 3 the board, 4 the sheet itself.
+// What refuses: the text of a number, the record of a line, the board, or the sheet itself. The rules number the layers.
+#[derive(Clone, Copy, Debug, PartialEq)]
+pub enum Layer {
+    Text = 1,
+    Record = 2,
+    Board = 3,
+    Sheet = 4,
+}
+
+// What is told of a fault. The rules number refusals, over all layers.
 #[derive(Clone, Copy, Debug, PartialEq)]
 pub struct FaultReport {
     pub line: usize,
-    pub layer: u32,
+    pub layer: Layer,
     pub refusal: u32,
     pub field: usize,
     pub offset: usize,
 }
 
 // The report of a fault that is about no field.
-fn whole(line: usize, layer: u32, refusal: u32) -> FaultReport
+fn whole(line: usize, layer: Layer, refusal: u32) -> FaultReport
     ensures { result ≡ whole_report line layer refusal }
 {
     FaultReport {
@@ -63,16 +72,16 @@ impl LineFault {
         match self {
             LineFault::Number { field, offset, .. } => FaultReport {
                 line,
-                layer: 1,
+                layer: Layer::Text,
                 refusal: 1,
                 field: *field,
                 offset: *offset,
             },
-            LineFault::KindUnknown => whole(line, 2, 2),
-            LineFault::FieldCount => whole(line, 2, 3),
+            LineFault::KindUnknown => whole(line, Layer::Record, 2),
+            LineFault::FieldCount => whole(line, Layer::Record, 3),
             LineFault::Board { fault, offset } => FaultReport {
                 line,
-                layer: 3,
+                layer: Layer::Board,
                 refusal: fault.refusal(),
                 field: fault.field(),
                 offset: *offset,
@@ -87,8 +96,8 @@ impl SheetFault {
         ensures { result ≡ sheet_report_of self.now }
     {
         match self {
-            SheetFault::TooLong => whole(0, 4, 5),
-            SheetFault::NoRoom => whole(0, 4, 35),
+            SheetFault::TooLong => whole(0, Layer::Sheet, 5),
+            SheetFault::NoRoom => whole(0, Layer::Sheet, 35),
             SheetFault::AtLine { line, fault } => fault.report(*line),
         }
     }

@@ -46,5 +46,5 @@ pub fn line(board: &mut Board, bytes: &[u8]) -> Result<u32, LineFault>
     ensures fields { FieldsStand bytes.now }
     ensures spots { NumbersSpotted bytes.now }
 {
-    Ok(run(board, bytes)?.1)
+    run(board, bytes).map(|(_, answer)| answer)
 }

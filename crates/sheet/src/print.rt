@@ -38,7 +38,7 @@ fn fault_cells(report: &FaultReport) -> [Cell; 5]
 {
     [
         Cell::Number(report.line as u64),
-        Cell::Number(u64::from(report.layer)),
+        Cell::Number(report.layer as u64),
         Cell::Number(u64::from(report.refusal)),
         Cell::Number(report.field as u64),
         Cell::Number(report.offset as u64),
@@ -64,10 +64,8 @@ impl Printed for Entry {
     ghost most = { 44 };
 
     fn print(&self, place: &mut [u8]) -> Result<usize, SheetFault> {
-        let cells = [
-            Cell::Symbol(self.kind.letter()),
-            Cell::Number(u64::from(self.answer)),
-        ];
-        print_cells(place, Cell::Number(self.line as u64), &cells)
+        let Entry { line, kind, answer } = *self;
+        let cells = [Cell::Symbol(kind.letter()), Cell::Number(u64::from(answer))];
+        print_cells(place, Cell::Number(line as u64), &cells)
     }
 }

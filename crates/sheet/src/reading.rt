@@ -1,7 +1,7 @@
 // What a line asks for.
 ghost use Rattle.std.specs.Prelude.{◌≡◌, ◌≤◌, length, drop, slice_index, Some, IfOk};
 ghost use Rattle.text.specs.Split.{before, tally, parted};
-ghost use Rattle.sheet.specs.Reading.{letter, offset_of, value_of, on_ok, values_of, steps_of, call_for, reading_of, call_of, asking};
+ghost use Rattle.sheet.specs.Reading.{letter, offset_of, value_of, spotted, on_ok, values_of, steps_of, call_for, reading_of, call_of, asking};
 
 use crate::fault::{LineFault, Spot};
 use crate::kind::Kind;
@@ -59,6 +59,16 @@ fn value(kind: Kind, field: usize, bytes: &[u8]) -> Result<u32, NumberFault>
     }
 }
 
+// What a field of a line writes, with a fault put at its number and offset.
+fn value_at(kind: Kind, line: &[u8], field: usize, bytes: &[u8]) -> Result<u32, LineFault>
+    ensures { result ≡ spotted field (offset_of (parted 9 line.now) field) (value_of kind field bytes.now) }
+{
+    Ok(value(kind, field, bytes).map_err(|fault| {
+        let offset = offset(line, field);
+        (Spot { field, offset }, fault)
+    })?)
+}
+
 // The numbers behind the kind of a line, whose kind is one byte.
 fn read_numbers(kind: Kind, line: &[u8]) -> Result<Short<u32, 16>, LineFault>
     requires { (tally 9 line.now ≤ 16) × (length (before 9 line.now) ≡ 1) }
@@ -67,11 +77,7 @@ fn read_numbers(kind: Kind, line: &[u8]) -> Result<Short<u32, 16>, LineFault>
 {
     let mut numbers = Short::empty(0);
     for (field, bytes) in line.split(|b| *b == TAB).enumerate().skip(1) {
-        let number = value(kind, field, bytes).map_err(|fault| {
-            let offset = offset(line, field);
-            (Spot { field, offset }, fault)
-        })?;
-        numbers.push(number);
+        numbers.push(value_at(kind, line, field, bytes)?);
     }
     Ok(numbers)
 }

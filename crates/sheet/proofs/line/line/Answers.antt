@@ -2,12 +2,6 @@ use Rattle.sheet.proofs.Offsets.{fields_stand}
 use Rattle.sheet.proofs.Spotted.{numbers_spotted}
 use Rattle.sheet.proofs.line.line.Goals as goal
 
-pub returns-in_err-run-clause-fields : goal.returns-in_err-run-clause-fields
-returns-in_err-run-clause-fields c = fields_stand c.args.bytes.now
-
-pub returns-in_err-run-clause-spots : goal.returns-in_err-run-clause-spots
-returns-in_err-run-clause-spots c = numbers_spotted c.args.bytes.now
-
 pub returns-clause-fields : goal.returns-clause-fields
 returns-clause-fields c = fields_stand c.args.bytes.now
 

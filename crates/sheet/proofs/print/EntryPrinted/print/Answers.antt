@@ -1,17 +1,10 @@
-use Rattle.std.proofs.Common.{◌∷◌, [], arith, ap, ◌∙◌}
-use Rattle.text.specs.Print.{printed_into}
-use Rattle.text.specs.declared.cells.Cell.TheVariants.{Number, Symbol}
-use Rattle.sheet.specs.Texts.{sheet_answer}
-use Rattle.sheet.proofs.Printing.{entry_line, entry_short}
+use Rattle.std.proofs.Common.{arith}
+use Rattle.sheet.specs.Texts.{entry_text}
+use Rattle.sheet.proofs.Printing.{printed_as, entry_line, entry_short}
 use Rattle.sheet.proofs.print.EntryPrinted.print.Goals as goal
 
 pub returns : goal.returns
 returns c =
-    let xs = c.args.place.now in
     let e = c.args.self.now in
-    let is = entry_line e (Symbol c.letter.result ∷ Number c.from.result ∷ []) cc in
-    record {
-      answer = c.print_cells.ensures.answer ∙ ap (λ t. sheet_answer (printed_into t xs).0) is;
-      after = c.print_cells.ensures.after ∙ ap (λ t. (printed_into t xs).1) is;
-      short = entry_short e (omega arith) (omega arith);
-    }
+    let printed = printed_as _ (entry_text e) c.args.place.now c.print_cells.new.place c.print_cells.result c.print_cells.ensures.answer c.print_cells.ensures.after (entry_line e _ cc) in
+    record { answer = printed.0; after = printed.1; short = entry_short e (omega arith) (omega arith) }
