@@ -22,7 +22,7 @@ whole_report line layer refusal = record { line = line; layer = layer; refusal =
 
 -- the fault of line k
 abbrev pub report_of : ℕ → LineFault → FaultReport
-report_of k (Number e field at) = record { line = k; layer = layer.Text; refusal = 1; field = field; offset = at }
+report_of k (Number e spot) = record { line = k; layer = layer.Text; refusal = 1; field = spot.field; offset = spot.offset }
 report_of k KindUnknown = whole_report k layer.Record 2
 report_of k FieldCount = whole_report k layer.Record 3
 report_of k (Board e at) = record { line = k; layer = layer.Board; refusal = refusal_of e; field = field_of e; offset = at }

@@ -8,6 +8,7 @@ use Rattle.text.specs.Number.{number_of, minutes_of}
 use Rattle.text.specs.Split.{parted}
 use Rattle.sheet.specs.declared.fault.LineFault.{LineFault}
 use Rattle.sheet.specs.declared.fault.LineFault.TheVariants.{Number, KindUnknown, FieldCount}
+use Rattle.sheet.specs.declared.fault.Spot.{Spot}
 use Rattle.sheet.specs.declared.kind.Kind.{Kind}
 use Rattle.sheet.specs.declared.kind.Kind.TheVariants.{Vehicle, Begin, Finish, Pass}
 use Rattle.sheet.specs.declared.reading.Request.{Request}
@@ -52,7 +53,7 @@ value_of Pass k f = minutes_of f
 
 -- a value, with its field and offset where it is malformed
 abbrev pub spotted : ℕ → ℕ → Result ℕ NumberFault → Result ℕ LineFault
-spotted k at r = result_map_both (λ n. n) (λ e. Number e k at) r
+spotted k at r = result_map_both (λ n. n) (λ e. Number e (record { field = k; offset = at })) r
 
 -- f of what an answer holds
 abbrev pub on_ok : {X Y E : Type 0} → (X → Y) → Result X E → Result Y E
@@ -93,7 +94,7 @@ reading_of bs = fields_read (parted 9 bs) (kind_of (slice_index_or (parted 9 bs)
 -- the offset that a malformed number is told at is that of its field
 abbrev pub NumbersSpotted : List ℕ → Type 0
 NumbersSpotted bs =
-    (e : NumberFault) (k at : ℕ) → reading_of bs ≡ Err (Number e k at) → (k < length (parted 9 bs)) × (at ≡ offset_of (parted 9 bs) k)
+    (e : NumberFault) (spot : Spot) → reading_of bs ≡ Err (Number e spot) → (spot.field < length (parted 9 bs)) × (spot.offset ≡ offset_of (parted 9 bs) spot.field)
 
 -- the call that a request stands for
 abbrev pub call_of : Request → Call

@@ -8,20 +8,20 @@ use hall::fault::BoardFault;
 use text::cells::PrintFault;
 use text::number::NumberFault;
 
-// Why a line is refused. Fields are counted from 0, and an offset is that of the field's first byte in the line.
+// A field of a line and its byte offset. Fields are counted from 0, and an offset is that of the field's first byte.
+#[derive(Clone, Copy, Debug, PartialEq)]
+pub struct Spot {
+    pub field: usize,
+    pub offset: usize,
+}
+
+// Why a line is refused.
 #[derive(Clone, Copy, Debug, PartialEq)]
 pub enum LineFault {
-    Number {
-        fault: NumberFault,
-        field: usize,
-        offset: usize,
-    },
+    Number { fault: NumberFault, spot: Spot },
     KindUnknown,
     FieldCount,
-    Board {
-        fault: BoardFault,
-        offset: usize,
-    },
+    Board { fault: BoardFault, offset: usize },
 }
 
 // Why a sheet is refused. Lines are counted from 1.
@@ -70,12 +70,12 @@ impl LineFault {
         ensures { result ≡ report_of line self.now }
     {
         match self {
-            LineFault::Number { field, offset, .. } => FaultReport {
+            LineFault::Number { spot, .. } => FaultReport {
                 line,
                 layer: Layer::Text,
                 refusal: 1,
-                field: *field,
-                offset: *offset,
+                field: spot.field,
+                offset: spot.offset,
             },
             LineFault::KindUnknown => whole(line, Layer::Record, 2),
             LineFault::FieldCount => whole(line, Layer::Record, 3),
@@ -103,21 +103,13 @@ impl SheetFault {
     }
 }
 
-// A field of a line, and its byte offset.
-#[derive(Clone, Copy)]
-pub struct Spot {
-    pub field: usize,
-    pub offset: usize,
-}
-
 impl From<(Spot, NumberFault)> for LineFault {
-    ghost from_gives = { λ e r. r ≡ lines.Number e.1 e.0.field e.0.offset };
+    ghost from_gives = { λ e r. r ≡ lines.Number e.1 e.0 };
 
     fn from(e: (Spot, NumberFault)) -> LineFault {
         LineFault::Number {
             fault: e.1,
-            field: e.0.field,
-            offset: e.0.offset,
+            spot: e.0,
         }
     }
 }
