@@ -60,6 +60,7 @@ fn run(shown: &mut Vec<u8>, text: &[u8]) -> Result<(), Stop>
 }
 
 // The text of what each line of a sheet did, up to the first that is refused, and then that one's fault.
+#[tactic(auto, using(crate::proofs::Telling::told))]
 pub fn replay(heap: Global, text: &[u8]) -> Result<Vec<u8>, AllocError>
     ensures shown { IfOk result (λ shown. shown.items ≡ replay_text text.now) }
     ensures told { Told text.now (replay_text text.now) }

@@ -1,15 +1,15 @@
 -- Laws of the fields of a line: how the library's `split` gives them, their offsets and values, and steps.
-use Rattle.std.proofs.Common.{◌≡◌, ℕ, zero, suc, ◌+◌, ◌-◌, ◌<◌, ◌≤◌, min, Bool, true, false, cond, eqb, List, [], ◌∷◌, ◌++◌, length, get_or, take, drop, Some, None, Ok, Err, Option, Result, sym, refl, ap, ◌∙◌, subst, append_assoc, append-nil, add-one, arith}
-use Rattle.std.proofs.lemmas.Iterator.{YieldsList}
+use Rattle.std.proofs.Common.{◌≡◌, ℕ, zero, suc, ◌+◌, ◌-◌, ◌<◌, ◌≤◌, min, Bool, true, false, cond, eqb, List, [], ◌∷◌, ◌++◌, length, get_or, take, drop, Some, None, Ok, Err, Option, Result, sym, refl, ap, ◌∙◌, subst, append_assoc, append-nil, add-one, arith, map}
+use Rattle.std.proofs.lemmas.Iterator.{YieldsList, YieldsList-from_take, YieldsList-from_map, maps}
 use Rattle.std.proofs.lemmas.Iterator.Adapters.{YieldsList-from_skip}
 use Rattle.std.proofs.lemmas.Iterator.Consumers.{YieldsList-at, YieldsList-from_enumerate, YieldsList-turn, YieldsList-end}
 use Rattle.std.proofs.lemmas.Iterator.Splits.{YieldsList-from_slice_split}
 use Rattle.std.proofs.lemmas.List.{drop_more, drop_all, length-drop, get_or-drop}
 use Rattle.std.proofs.lemmas.List.FromFn.{length-enumerate_from, get_or-enumerate_from}
 use Rattle.std.proofs.lemmas.List.Sums.{sum_by-cons, sum_by-take-le}
-use Rattle.std.specs.Fn.{CalledAt}
+use Rattle.std.specs.Fn.{Called, CalledAt}
 use Rattle.std.specs.Iterator.{Yields}
-use Rattle.std.specs.Iterator.Adapters.{skip_source, skip_count, skip_steps, enumerate_source, enumerate_count, enumerate_steps}
+use Rattle.std.specs.Iterator.Adapters.{map_source, map_callee, take_source, take_count, take_steps, skip_source, skip_count, skip_steps, enumerate_source, enumerate_count, enumerate_steps}
 use Rattle.std.specs.List.{sum_by, enumerate_from, slice_split, onto_first}
 use Rattle.std.specs.Slice.Iter as slice
 use denote.Param.Members.{Mut}
@@ -50,6 +50,14 @@ fields_numbered g xs rest done callee source none skipped one same calls =
 -- how far it is from a field to the one behind it
 abbrev pub wide : List ℕ → ℕ
 wide f = length f + 1
+
+-- the distances of the first k fields, as the chain of `offset` gives them
+pub wides_given : {F G : Type 0} {s : _} (g : Mut F (Bor ℕ × Unit {0}) Bool) {f : F} (xs : List ℕ) → slice.split_rest s ≡ xs → slice.split_done s ≡ false → slice.split_callee s ≡ f
+    → {t : _} (k : ℕ) → take_source t ≡ s → take_count t ≡ k → (h : Mut G (Bor (List ℕ) × Unit {0}) ℕ) {m : _} {w : G} → map_source m ≡ t → map_callee m ≡ w
+    → ((x : ℕ) (b : Bool) (q : F) → CalledAt g f x b q → (q ≡ f) × (b ≡ eqb x 9)) → ((x : Bor (List ℕ)) (n : ℕ) (q : G) → Called h w (x, tt) n q → (q ≡ w) × (n ≡ wide x.now))
+    → YieldsList (maps (take_steps (slice.split_steps g)) h) (λ n. n) m (map wide (take k (parted 9 xs)))
+wides_given g xs rest done callee k source count h mapped with calls widths =
+    YieldsList-from_map h wide (YieldsList-at mapped (YieldsList-from_take k (YieldsList-at source (fields_given g xs rest done callee calls)) count)) with widths
 
 wide-on_first : (x : ℕ) (ps : List (List ℕ)) → 0 < length ps → sum_by wide (on_first x ps) ≡ sum_by wide ps + 1
 wide-on_first x [] h = absurd (omega arith)

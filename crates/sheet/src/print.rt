@@ -8,7 +8,8 @@ use crate::fault::{FaultReport, SheetFault};
 use crate::run::Entry;
 use text::cells::{Cell, print_line};
 
-// What is printed as a line.
+// What is printed as a line, all of it or none: `Display` writes piece by piece, and would not leave a place that is too
+// short as it was.
 pub trait Printed {
     // the bytes of its line
     ghost text: { Self → List ℕ };

@@ -5,7 +5,7 @@ use Rattle.sheet.specs.declared.fault.SheetFault.TheVariants.{AtLine}
 use Rattle.sheet.specs.Reading.{on_ok}
 use Rattle.sheet.specs.Run.{number}
 use Rattle.sheet.proofs.Contexts.{beside_ok, beside_err}
-use Rattle.sheet.proofs.Running.{next_log, next_rest, next_refused, next_accepted, lettered}
+use Rattle.sheet.proofs.Running.{next_refused, next_accepted}
 use Rattle.sheet.proofs.run.Cursor.next.Goals as goal
 
 pub returns-in_err-kind-clause-answer : goal.returns-in_err-kind-clause-answer
@@ -18,26 +18,9 @@ returns-in_err-kind-clause-answer c =
     ∙ next_refused c.args.text.now c.args.self.now.at c.find-end.result k (hall_log c.args.board.now) (omega arith) c.find-end.ensures.is
     (on_ok (λ a. a.1) c.run.result) c.run.ensures.called.answer d.1 (ap (on_ok (λ a. a.1)) told.0)
 
-pub returns-in_err-kind-clause-log : goal.returns-in_err-kind-clause-log
-returns-in_err-kind-clause-log c =
-    c.run.ensures.called.log ∙ next_log c.args.text.now c.args.self.now.at c.find-end.result (number c.args.self.now) (hall_log c.args.board.now) (omega arith) c.find-end.ensures.is
-
-pub returns-in_err-kind-clause-lettered : goal.returns-in_err-kind-clause-lettered
-returns-in_err-kind-clause-lettered c = lettered
-
 pub returns-clause-answer : goal.returns-clause-answer
 returns-clause-answer c =
     let k = number c.args.self.now in
     let told = beside_ok k (λ f d h. search rules) c.run.result c.map_err.result (c.in_ok-kind.kind, c.in_ok-kind.answer) c.map_err.ensures.cases c.in_ok-kind.was in
     next_accepted c.args.text.now c.args.self.now.at c.find-end.result k (hall_log c.args.board.now) (omega arith) c.find-end.ensures.is
     (on_ok (λ a. a.1) c.run.result) c.run.ensures.called.answer c.in_ok-kind.answer c.in_ok-kind.kind (ap (on_ok (λ a. a.1)) told) (IfOk-at_ok _ told c.run.ensures.kind)
-
-pub returns-clause-log : goal.returns-clause-log
-returns-clause-log c =
-    c.run.ensures.called.log ∙ next_log c.args.text.now c.args.self.now.at c.find-end.result (number c.args.self.now) (hall_log c.args.board.now) (omega arith) c.find-end.ensures.is
-
-pub returns-clause-rest : goal.returns-clause-rest
-returns-clause-rest c = next_rest c.args.text.now c.args.self.now.at c.find-end.result (number c.args.self.now) (hall_log c.args.board.now) (omega arith) c.find-end.ensures.is c.min-self.result c.min-self.ensures
-
-pub returns-clause-lettered : goal.returns-clause-lettered
-returns-clause-lettered c = lettered
