@@ -83,15 +83,14 @@ fn read_numbers(kind: Kind, line: &[u8]) -> Result<Short<u32, 16>, LineFault>
 }
 
 // The steps that pairs of numbers give.
-fn pair_steps(numbers: &[u32]) -> Short<Step, 8>
-    requires { length numbers.now ≤ 16 }
-    ensures { result.items ≡ steps_of numbers.now }
+fn pair_steps(numbers: &Short<u32, 16>) -> Short<Step, 8>
+    ensures { result.items ≡ steps_of numbers.now.items }
 {
     let mut steps = Short::empty(Step {
         station: 0,
         length: 0,
     });
-    for pair in numbers.chunks_exact(2) {
+    for pair in numbers.as_slice().chunks_exact(2) {
         steps.push(Step {
             station: pair[0],
             length: pair[1],
@@ -101,16 +100,17 @@ fn pair_steps(numbers: &[u32]) -> Short<Step, 8>
 }
 
 // The call that a line of this kind with these numbers asks for.
-fn asked(kind: Kind, numbers: &[u32]) -> Request
-    requires { (1 ≤ length numbers.now) × (length numbers.now ≤ 16) }
-    ensures call { call_of result ≡ call_for kind numbers.now }
+fn asked(kind: Kind, numbers: &Short<u32, 16>) -> Request
+    requires { 1 ≤ length numbers.now.items }
+    ensures call { call_of result ≡ call_for kind numbers.now.items }
     ensures kind { asking result ≡ kind }
 {
+    let first = numbers.as_slice()[0];
     match kind {
         Kind::Vehicle => Request::Enter(pair_steps(numbers)),
-        Kind::Begin => Request::Begin(numbers[0]),
-        Kind::Finish => Request::Finish(numbers[0]),
-        Kind::Pass => Request::Pass(numbers[0]),
+        Kind::Begin => Request::Begin(first),
+        Kind::Finish => Request::Finish(first),
+        Kind::Pass => Request::Pass(first),
     }
 }
 
@@ -125,5 +125,5 @@ pub(crate) fn read(bytes: &[u8]) -> Result<Request, LineFault>
         return Err(LineFault::FieldCount);
     }
     let numbers = read_numbers(kind, bytes)?;
-    Ok(asked(kind, numbers.as_slice()))
+    Ok(asked(kind, &numbers))
 }

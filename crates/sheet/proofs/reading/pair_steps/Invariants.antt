@@ -7,6 +7,6 @@ use Rattle.sheet.proofs.reading.pair_steps.Given as goal
 abbrev pub invariant-loop-pair : goal.invariant-loop-pair
 invariant-loop-pair l = record {
   pairs : chunks_exact_size l.pair-iterator ≡ 2;
-  count : 2 * length l.steps.items + length (chunks_exact_rest l.pair-iterator) ≡ length l.numbers;
-  steps : l.steps.items ++ steps_of (chunks_exact_rest l.pair-iterator) ≡ steps_of l.numbers;
+  count : 2 * length l.steps.items + length (chunks_exact_rest l.pair-iterator) ≡ length l.numbers.items;
+  steps : l.steps.items ++ steps_of (chunks_exact_rest l.pair-iterator) ≡ steps_of l.numbers.items;
 }

@@ -28,7 +28,7 @@ pub returns-clause-call : goal.returns-clause-call
 returns-clause-call c =
     ap Ok c.asked.ensures.call
     ∙ read_values c.args.bytes.now c.find-end.result c.find-end.ensures.is c.in_ok-kind.kind (sym c.in_ok-kind.ensures) c.count.result c.count.ensures
-    (Ok c.as_slice.result.now) c.if-not-fits.ensures (ap Ok c.as_slice.ensures.items ∙ c.in_ok-numbers.ensures.value)
+    (Ok c.in_ok-numbers.numbers.items) c.if-not-fits.ensures c.in_ok-numbers.ensures.value
 
 pub returns-clause-kind : goal.returns-clause-kind
 returns-clause-kind c =
