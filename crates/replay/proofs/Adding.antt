@@ -1,34 +1,31 @@
 -- A text that is printed into a place with room for it, and then added to what is shown.
-use Rattle.std.proofs.Common.{◌≡◌, ℕ, ◌-◌, ◌≤◌, cond, leb, List, ◌++◌, length, take, is_ok, IfOk, Ok, Err, Result, refl, ap, ◌∙◌, arith}
+use Rattle.std.proofs.Common.{◌≡◌, ℕ, ◌≤◌, cond, leb, List, ◌++◌, length, take, is_ok, IfOk, Ok, Err, Result, refl, ap, ◌∙◌, arith}
 use Rattle.std.proofs.lemmas.List.{take_at}
 use Rattle.std.proofs.lemmas.Bool.{cond-true, le-leb}
 use Rattle.sheet.specs.Texts.{sheet_answer}
 use Rattle.sheet.specs.declared.fault.SheetFault.{SheetFault}
 use Rattle.text.specs.Print.{put_at, printed_into}
 
-ok_same : {E : Type 0} (m n : ℕ) → ◌≡◌ {A = Result ℕ E} (Ok m) (Ok n) → m ≡ n
-ok_same m n e = cc
-
-ok_err : (n : ℕ) (f : SheetFault) → ◌≡◌ {A = Result ℕ SheetFault} (Err f) (Ok n) → ⊥
-ok_err n f e = let z : ◌≡◌ {A = ℕ} 0 1 = cc in omega arith
-
 printed : (xs t : List ℕ) → length t ≤ length xs → printed_into t xs ≡ (Ok (length t), put_at xs 0 t)
 unfolding printed_into
 printed xs t room = cond-true (leb (length t) (length xs)) _ _ (le-leb _ _ room)
 
 pub counted : (xs t : List ℕ) (n : ℕ) → Ok n ≡ sheet_answer (printed_into t xs).0 → length t ≤ length xs → n ≡ length t
-counted xs t n e room = ok_same n (length t) (e ∙ ap (λ d. sheet_answer d.0) (printed xs t room))
+counted xs t n e room =
+    let same : Ok n ≡ Ok (length t) = e ∙ ap (λ d. sheet_answer d.0) (printed xs t room) in
+    cc
 
 pub not_refused : (xs t : List ℕ) (f : SheetFault) → Err f ≡ sheet_answer (printed_into t xs).0 → length t ≤ length xs → ⊥
-not_refused xs t f e room = ok_err (length t) f (e ∙ ap (λ d. sheet_answer d.0) (printed xs t room))
+not_refused xs t f e room =
+    let same : Err f ≡ Ok (length t) = e ∙ ap (λ d. sheet_answer d.0) (printed xs t room) in
+    cc
 
 -- the place's front is the text
 pub front : (xs t : List ℕ) (n : ℕ) (place : List ℕ) → Ok n ≡ sheet_answer (printed_into t xs).0 → place ≡ (printed_into t xs).1
-    → length t ≤ length xs → take (n - 0) place ≡ t
+    → length t ≤ length xs → take n place ≡ t
 unfolding put_at
 front xs t n place e q room =
-    let c : n - 0 ≡ length t = omega (arith, counted xs t n e room) in
-    ap (λ k. take k place) c ∙ (ap (take (length t)) (q ∙ ap (λ d. d.1) (printed xs t room)) ∙ take_at t _ (length t) refl)
+    ap (λ k. take k place) (counted xs t n e room) ∙ (ap (take (length t)) (q ∙ ap (λ d. d.1) (printed xs t room)) ∙ take_at t _ (length t) refl)
 
 -- where there was memory, what was added stands at the end
 pub added : {T E : Type 0} (r : Result T E) (old new more t : List ℕ) → new ≡ cond (is_ok r) (old ++ more) old → more ≡ t

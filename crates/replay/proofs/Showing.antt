@@ -1,26 +1,32 @@
 -- The text of the lines that are left, line by line.
-use Rattle.std.proofs.Common.{◌≡◌, ℕ, ◌+◌, ◌<◌, List, [], ◌∷◌, ◌++◌, length, get_or, drop, IsErrAnd, Some, None, Ok, Err, Result, sym, refl, ap, ◌∙◌, subst, append_assoc, arith}
+use Rattle.std.proofs.Common.{◌≡◌, ℕ, ◌+◌, ◌<◌, List, [], ◌∷◌, ◌++◌, length, get_or, drop, IsErrAnd, Some, None, Ok, Err, Option, Result, sym, refl, ap, ◌∙◌, subst, append_assoc, arith}
 use Rattle.std.proofs.lemmas.Result.{err_from_is_err_and}
 use Rattle.hall.specs.Log.{Log, empty_log}
 use Rattle.sheet.specs.declared.fault.LineFault.{LineFault}
 use Rattle.sheet.specs.declared.fault.SheetFault.{SheetFault}
+use Rattle.sheet.specs.declared.kind.Kind.{Kind}
 use Rattle.sheet.specs.declared.run.Entry.{Entry}
+use Rattle.sheet.specs.Reading.{letter}
 use Rattle.sheet.specs.Line.{line_answer, line_log}
-use Rattle.sheet.specs.Run.{opened_of, entry_of, next_of, log_next, number_next}
+use Rattle.sheet.specs.Run.{opened_of, entry_for, entry_of, next_of, log_next, number_next}
 use Rattle.sheet.specs.Texts.{entry_text, fault_text}
 use Rattle.replay.specs.declared.replaying.Stop.{Stop}
 use Rattle.replay.specs.declared.replaying.Stop.TheVariants.{Fault}
 use Rattle.replay.specs.Replay.{shown_before, lines_text, opened_text, replay_text, Ran}
 
+no_entry_for : (k n : ℕ) (o : Option Kind) → Ok None ≡ entry_for k n o → ⊥
+no_entry_for k n (Some kind) h = cc
+no_entry_for k n None h = cc
+
 no_entry : (k b : ℕ) (r : Result ℕ LineFault) → Ok None ≡ entry_of k b r → ⊥
-no_entry k b (Ok n) h = let z : ◌≡◌ {A = ℕ} 0 1 = cc in omega arith
-no_entry k b (Err f) h = let z : ◌≡◌ {A = ℕ} 0 1 = cc in omega arith
+no_entry k b (Ok n) h = no_entry_for k n (letter b) h
+no_entry k b (Err f) h = cc
 
 module _ (k : ℕ) (log : Log) where
   -- an accepted line shows its entry, and the lines behind it follow
   pub shows_entry : (ls : List (List ℕ)) (e : Entry) → Ok (Some e) ≡ next_of k ls log
       → (0 < length ls) × (lines_text k ls log ≡ entry_text e ++ lines_text (number_next k ls) (drop 1 ls) (log_next ls log))
-  shows_entry [] e h = absurd (let z : ◌≡◌ {A = ℕ} 0 1 = cc in omega arith)
+  shows_entry [] e h = cc
   shows_entry (l ∷ ls) e h = (omega arith, ap (λ r. shown_before r (lines_text (k + 1) ls (line_log log l))) (sym h))
 
   -- no line is left

@@ -1,14 +1,17 @@
 -- The text of a replayed sheet tells its lines.
-use Rattle.std.proofs.Common.{◌≡◌, ℕ, zero, suc, ◌+◌, ◌<◌, ltb, List, [], ◌∷◌, ◌++◌, length, get_or, take, drop, Some, Ok, Err, fold, Result, sym, refl, ap, ◌∙◌, subst, inl, inr, ⊎_elim, append_assoc, add-zero, arith}
+use Rattle.std.proofs.Common.{◌≡◌, ℕ, zero, suc, ◌+◌, ◌<◌, ltb, List, [], ◌∷◌, ◌++◌, length, get_or, take, drop, Some, None, Ok, Err, fold, Option, Result, sym, refl, ap, ◌∙◌, subst, inl, inr, ⊎_elim, append_assoc, add-zero, arith}
 use Rattle.std.proofs.lemmas.Bool.{cond-false, le-ltb}
 use Rattle.std.specs.List.{flat_map}
 use Rattle.hall.specs.Log.{Log, empty_log}
 use Rattle.sheet.specs.declared.fault.LineFault.{LineFault}
+use Rattle.sheet.specs.declared.fault.LineFault.TheVariants.{KindUnknown}
 use Rattle.sheet.specs.declared.fault.SheetFault.{SheetFault}
 use Rattle.sheet.specs.declared.fault.SheetFault.TheVariants.{AtLine}
+use Rattle.sheet.specs.declared.kind.Kind.{Kind}
 use Rattle.sheet.specs.declared.run.Entry.{Entry}
 use Rattle.sheet.specs.Line.{line_answer, line_log}
-use Rattle.sheet.specs.Run.{entry_of, next_of}
+use Rattle.sheet.specs.Run.{entry_for, entry_of, next_of}
+use Rattle.sheet.specs.Reading.{letter}
 use Rattle.sheet.specs.Texts.{entry_text, fault_text}
 use Rattle.text.specs.Split.{ended}
 use Rattle.replay.specs.Replay.{lines_text, opened_text, shown_before, replay_text, line_gives, blank_entry, Tells, Told}
@@ -55,9 +58,14 @@ stops k l ls log f h = record {
   ends = inr (f, first_gives k (l ∷ ls) log ∙ h, ap (λ r. shown_before r (lines_text (k + 1) ls (line_log log l))) h);
 }
 
+by_letter : (k : ℕ) (l : List ℕ) (ls : List (List ℕ)) (log : Log) (n : ℕ) (o : Option Kind) → next_of k (l ∷ ls) log ≡ entry_for k n o
+    → Tells (k + 1) ls (line_log log l) (lines_text (k + 1) ls (line_log log l)) → Tells k (l ∷ ls) log (lines_text k (l ∷ ls) log)
+by_letter k l ls log n (Some kind) h t = more k l ls log (record { line = k; kind = kind; answer = n }) h t
+by_letter k l ls log n None h t = stops k l ls log (AtLine k KindUnknown) h
+
 by_answer : (k : ℕ) (l : List ℕ) (ls : List (List ℕ)) (log : Log) (a : Result ℕ LineFault) → line_answer log l ≡ a
     → Tells (k + 1) ls (line_log log l) (lines_text (k + 1) ls (line_log log l)) → Tells k (l ∷ ls) log (lines_text k (l ∷ ls) log)
-by_answer k l ls log (Ok n) h t = more k l ls log (record { line = k; letter = get_or l 0 0; answer = n }) (ap (entry_of k (get_or l 0 0)) h) t
+by_answer k l ls log (Ok n) h t = by_letter k l ls log n (letter (get_or l 0 0)) (ap (entry_of k (get_or l 0 0)) h) t
 by_answer k l ls log (Err f) h t = stops k l ls log (AtLine k f) (ap (entry_of k (get_or l 0 0)) h)
 
 tells : (k : ℕ) (ls : List (List ℕ)) (log : Log) → Tells k ls log (lines_text k ls log)

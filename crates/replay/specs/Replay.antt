@@ -3,6 +3,7 @@ use Rattle.std.specs.Prelude.{◌≡◌, ℕ, ◌+◌, ◌<◌, ◌≤◌, ◌�
 use Rattle.std.specs.List.{flat_map}
 use Rattle.hall.specs.Log.{Log, empty_log}
 use Rattle.sheet.specs.declared.fault.SheetFault.{SheetFault}
+use Rattle.sheet.specs.declared.kind.Kind.TheVariants.{Vehicle}
 use Rattle.sheet.specs.declared.run.Entry.{Entry}
 use Rattle.replay.specs.declared.replaying.Stop.{Stop}
 use Rattle.replay.specs.declared.replaying.Stop.TheVariants.{Memory, Fault}
@@ -36,7 +37,7 @@ line_gives k ls log i = next_of (k + i) (drop i ls) (fold line_log log (take i l
 
 -- what is read past the last entry
 abbrev pub blank_entry : Entry
-blank_entry = record { line = 0; letter = 0; answer = 0 }
+blank_entry = record { line = 0; kind = Vehicle; answer = 0 }
 
 -- what a text says of these lines, of which the first is line k, on a hall with this log: the first lines were accepted,
 -- each on the hall that the lines before it left, and the text has their entries in order; they are all lines, or the

@@ -1,12 +1,98 @@
--- Laws of the fields of a line: offsets, values and steps.
-use Rattle.std.proofs.Common.{◌≡◌, ℕ, suc, ◌+◌, ◌-◌, ◌*◌, ◌<◌, ◌≤◌, List, [], ◌∷◌, ◌++◌, length, get_or, take, drop, set, Ok, Err, Result, sym, refl, ap, ◌∙◌, append_assoc, arith}
-use Rattle.std.proofs.lemmas.List.{drop_more, drop-drop, length-take-le, get_or-take, take_more_set}
-use Rattle.hall.specs.declared.step.Step.{Step}
-use Rattle.text.specs.Split.{before, parted, tally}
-use Rattle.text.proofs.Splits.{parted_first, parted_more, before_less, piece_more, piece_end, piece_bytes}
+-- Laws of the fields of a line: how the library's `split` gives them, their offsets and values, and steps.
+use Rattle.std.proofs.Common.{◌≡◌, ℕ, zero, suc, ◌+◌, ◌-◌, ◌<◌, ◌≤◌, min, Bool, true, false, cond, eqb, List, [], ◌∷◌, ◌++◌, length, get_or, take, drop, Some, None, Ok, Err, Option, Result, sym, refl, ap, ◌∙◌, subst, append_assoc, append-nil, add-one, arith, map}
+use Rattle.std.proofs.lemmas.Iterator.{YieldsList, YieldsList-from_take, YieldsList-from_map, maps}
+use Rattle.std.proofs.lemmas.Iterator.Adapters.{YieldsList-from_skip}
+use Rattle.std.proofs.lemmas.Iterator.Consumers.{YieldsList-at, YieldsList-from_enumerate, YieldsList-turn, YieldsList-end}
+use Rattle.std.proofs.lemmas.Iterator.Splits.{YieldsList-from_slice_split}
+use Rattle.std.proofs.lemmas.List.{drop_more, drop_all, length-drop, get_or-drop}
+use Rattle.std.proofs.lemmas.List.FromFn.{length-enumerate_from, get_or-enumerate_from}
+use Rattle.std.proofs.lemmas.List.Sums.{sum_by-cons, sum_by-take-le}
+use Rattle.std.specs.Fn.{Called, CalledAt}
+use Rattle.std.specs.Iterator.{Yields}
+use Rattle.std.specs.Iterator.Adapters.{map_source, map_callee, take_source, take_count, take_steps, skip_source, skip_count, skip_steps, enumerate_source, enumerate_count, enumerate_steps}
+use Rattle.std.specs.List.{sum_by, enumerate_from, slice_split, onto_first}
+use Rattle.std.specs.Slice.Iter as slice
+use denote.Param.Members.{Mut}
+use denote.Ref.{Bor}
+use Rattle.text.specs.Split.{before, on_first, parted, tally}
+use Rattle.text.proofs.Splits.{parted_first, parted_some, length-parted}
 use Rattle.sheet.specs.declared.fault.LineFault.{LineFault}
 use Rattle.sheet.specs.declared.kind.Kind.{Kind}
 use Rattle.sheet.specs.Reading.{offset_of, on_ok, spotted, value_of, value_next, values_of, steps_of}
+
+-- the library's pieces of a slice are those that b parts
+onto_same : (x : ℕ) (ps : List (List ℕ)) → onto_first x ps ≡ on_first x ps
+onto_same x [] = refl
+onto_same x (p ∷ ps) = refl
+
+split_parted : (b : ℕ) (xs : List ℕ) → slice_split (λ x. eqb x b) xs ≡ parted b xs
+split_parted b [] = refl
+split_parted b (x ∷ xs) =
+    elim (eqb x b) as (λ t. cond t ([] ∷ slice_split (λ y. eqb y b) xs) (onto_first x (slice_split (λ y. eqb y b) xs)) ≡ cond t ([] ∷ parted b xs) (on_first x (parted b xs))) [
+      | true ↦ ap (λ ps. [] ∷ ps) (split_parted b xs)
+      | false ↦ onto_same x (slice_split (λ y. eqb y b) xs) ∙ ap (on_first x) (split_parted b xs)
+    ]
+
+-- a slice that is cut at each tab gives the fields of its line
+pub fields_given : {F : Type 0} {s : _} (g : Mut F (Bor ℕ × Unit {0}) Bool) {f : F} (xs : List ℕ) → slice.split_rest s ≡ xs → slice.split_done s ≡ false → slice.split_callee s ≡ f
+    → ((x : ℕ) (b : Bool) (q : F) → CalledAt g f x b q → (q ≡ f) × (b ≡ eqb x 9)) → YieldsList (slice.split_steps g) (λ x. x.now) s (parted 9 xs)
+fields_given g xs rest done callee calls =
+    subst (YieldsList (slice.split_steps g) (λ x. x.now) _) (split_parted 9 xs) (YieldsList-from_slice_split g (λ x. eqb x 9) xs rest done callee calls)
+
+-- the fields behind the kind, with their numbers
+pub fields_numbered : {F : Type 0} {s : _} (g : Mut F (Bor ℕ × Unit {0}) Bool) {f : F} (xs : List ℕ) → slice.split_rest s ≡ xs → slice.split_done s ≡ false → slice.split_callee s ≡ f
+    → {e : _} → enumerate_source e ≡ s → enumerate_count e ≡ 0 → {k : _} → skip_source k ≡ e → skip_count k ≡ 1 → {i : _} → i ≡ k
+    → ((x : ℕ) (b : Bool) (q : F) → CalledAt g f x b q → (q ≡ f) × (b ≡ eqb x 9))
+    → YieldsList {B = ℕ × List ℕ} (skip_steps (enumerate_steps (slice.split_steps g))) (λ p. (p.0, p.1.now)) i (drop 1 (enumerate_from 0 (parted 9 xs)))
+fields_numbered g xs rest done callee source none skipped one same calls =
+    YieldsList-at same (YieldsList-from_skip 1 (YieldsList-at skipped (YieldsList-from_enumerate (YieldsList-at source (fields_given g xs rest done callee calls)) none)) one)
+
+-- how far it is from a field to the one behind it
+abbrev pub wide : List ℕ → ℕ
+wide f = length f + 1
+
+-- the distances of the first k fields, as the chain of `offset` gives them
+pub wides_given : {F G : Type 0} {s : _} (g : Mut F (Bor ℕ × Unit {0}) Bool) {f : F} (xs : List ℕ) → slice.split_rest s ≡ xs → slice.split_done s ≡ false → slice.split_callee s ≡ f
+    → {t : _} (k : ℕ) → take_source t ≡ s → take_count t ≡ k → (h : Mut G (Bor (List ℕ) × Unit {0}) ℕ) {m : _} {w : G} → map_source m ≡ t → map_callee m ≡ w
+    → ((x : ℕ) (b : Bool) (q : F) → CalledAt g f x b q → (q ≡ f) × (b ≡ eqb x 9)) → ((x : Bor (List ℕ)) (n : ℕ) (q : G) → Called h w (x, tt) n q → (q ≡ w) × (n ≡ wide x.now))
+    → YieldsList (maps (take_steps (slice.split_steps g)) h) (λ n. n) m (map wide (take k (parted 9 xs)))
+wides_given g xs rest done callee k source count h mapped with calls widths =
+    YieldsList-from_map h wide (YieldsList-at mapped (YieldsList-from_take k (YieldsList-at source (fields_given g xs rest done callee calls)) count)) with widths
+
+wide-on_first : (x : ℕ) (ps : List (List ℕ)) → 0 < length ps → sum_by wide (on_first x ps) ≡ sum_by wide ps + 1
+wide-on_first x [] h = absurd (omega arith)
+wide-on_first x (p ∷ ps) h = omega (arith, sum_by-cons wide (x ∷ p) ps, sum_by-cons wide p ps)
+
+-- over all fields it is one more than the bytes of the line
+pub wide_all : (b : ℕ) (xs : List ℕ) → sum_by wide (parted b xs) ≡ length xs + 1
+wide_all b [] = refl
+wide_all b (x ∷ xs) =
+    elim (eqb x b) as (λ t. sum_by wide (cond t ([] ∷ parted b xs) (on_first x (parted b xs))) ≡ suc (length xs) + 1) [
+      | true ↦ omega (arith, sum_by-cons wide [] (parted b xs), wide_all b xs)
+      | false ↦ omega (arith, wide-on_first x (parted b xs) (parted_some b xs), wide_all b xs)
+    ]
+
+-- so an offset is the sum over the fields before it, and past the last field that of the line's end
+offset_sum : (fs : List (List ℕ)) (k : ℕ) → 0 < length fs → min (sum_by wide (take k fs)) (sum_by wide fs - 1) ≡ offset_of fs k
+offset_sum [] k h = absurd (omega arith)
+offset_sum (f ∷ []) zero h = omega arith
+offset_sum (f ∷ []) (suc k) h = omega (arith, sum_by-cons wide f (take k []))
+offset_sum (f ∷ g ∷ fs) zero h = omega arith
+offset_sum (f ∷ g ∷ fs) (suc k) h =
+    omega (
+      arith,
+      sum_by-cons wide f (take k (g ∷ fs)),
+      sum_by-cons wide f (g ∷ fs),
+      sum_by-cons wide g fs,
+      offset_sum (g ∷ fs) k (omega arith),
+    )
+
+pub offset_is : (xs : List ℕ) (k : ℕ) → min (sum_by wide (take k (parted 9 xs))) (length xs) ≡ offset_of (parted 9 xs) k
+offset_is xs k = omega (arith, offset_sum (parted 9 xs) k (parted_some 9 xs), wide_all 9 xs)
+
+-- and the sum is in range
+pub offset_fits : (xs : List ℕ) (k : ℕ) → sum_by wide (take k (parted 9 xs)) ≤ length xs + 1
+offset_fits xs k = omega (arith, sum_by-take-le wide (parted 9 xs) k, wide_all 9 xs)
 
 -- the first field begins its line
 pub offset_of_none : (fs : List (List ℕ)) → offset_of fs 0 ≡ 0
@@ -19,6 +105,37 @@ pub offset_of_more : (f : List ℕ) (fs : List (List ℕ)) (k : ℕ) → 0 < len
 offset_of_more f [] k h = absurd (omega arith)
 offset_of_more f (g ∷ fs) k h = refl
 
+-- a field with one behind it
+offset_of_next : (fs : List (List ℕ)) (k : ℕ) (g : List ℕ) (gs : List (List ℕ)) → drop k fs ≡ g ∷ gs → 0 < length gs → offset_of fs (suc k) ≡ offset_of fs k + length g + 1
+offset_of_next [] k g gs e h = absurd (omega (arith, ap length e, length-drop {A = List ℕ} k []))
+offset_of_next (f ∷ fs) zero g gs e h =
+    let head : f ≡ g = cc in
+    let tail : fs ≡ gs = cc in
+    omega (arith, offset_of_more f fs 0 (omega (arith, ap length tail)), offset_of_none fs, offset_of_none (f ∷ fs), ap length head)
+offset_of_next (f ∷ fs) (suc k) g gs e h =
+    omega (
+      arith,
+      ap length e,
+      length-drop k fs,
+      offset_of_more f fs (suc k) (omega (arith, ap length e, length-drop k fs)),
+      offset_of_more f fs k (omega (arith, ap length e, length-drop k fs)),
+      offset_of_next fs k g gs e h,
+    )
+
+-- the values behind field k
+values_behind : (kind : Kind) (fs : List (List ℕ)) (k : ℕ) (g : List ℕ) (gs : List (List ℕ)) → drop k fs ≡ g ∷ gs
+    → values_of kind (k + 1) (offset_of fs k + length g + 1) gs ≡ values_of kind (k + 1) (offset_of fs (k + 1)) gs
+values_behind kind fs k g [] e = refl
+values_behind kind fs k g (h ∷ gs) e =
+    ap (λ at. values_of kind (k + 1) at (h ∷ gs)) (sym (ap (offset_of fs) (add-one k) ∙ offset_of_next fs k g (h ∷ gs) e (omega arith)))
+
+-- those behind the kind, which is one byte
+pub values_first : (kind : Kind) (xs : List ℕ) → length (before 9 xs) ≡ 1 → values_of kind 1 (offset_of (parted 9 xs) 1) (drop 1 (parted 9 xs)) ≡ values_of kind 1 2 (drop 1 (parted 9 xs))
+values_first kind xs one =
+    let fs = parted 9 xs in
+    let two : offset_of fs 0 + length (before 9 xs) + 1 ≡ 2 = omega (arith, offset_of_none fs) in
+    sym (values_behind kind fs 0 (before 9 xs) (drop 1 fs) (parted_first 9 xs)) ∙ ap (λ at. values_of kind 1 at (drop 1 fs)) two
+
 on_ok_cons : (ns : List ℕ) (n : ℕ) (r : Result (List ℕ) LineFault) → on_ok (λ ms. ns ++ ms) (on_ok (λ ms. n ∷ ms) r) ≡ on_ok (λ ms. (ns ++ n ∷ []) ++ ms) r
 on_ok_cons ns n (Ok ms) = ap Ok (sym (append_assoc ns (n ∷ []) ms))
 on_ok_cons ns n (Err e) = refl
@@ -28,69 +145,82 @@ pub on_ok_id : (r : Result (List ℕ) LineFault) → on_ok (λ ms. [] ++ ms) r �
 on_ok_id (Ok ms) = refl
 on_ok_id (Err e) = refl
 
--- the fields behind the kind, which is one byte, begin at offset 2
-pub first_field : (xs : List ℕ) → length (before 9 xs) ≡ 1 → 1 ≤ tally 9 xs → (2 ≤ length xs) × (drop 1 (parted 9 xs) ≡ parted 9 (drop 2 xs))
-first_field xs one some =
-    let less = before_less 9 xs some in
-    (omega arith, ap (drop 1) (parted_more 9 xs less) ∙ ap (λ n. parted 9 (drop (suc n) xs)) one)
+-- the item of a turn of the loop over the numbered fields behind the kind
+abbrev pub IsTurn : List (List ℕ) → ℕ → ℕ × List ℕ → Type 0
+IsTurn fs n p = (n < length (drop 1 (enumerate_from 0 fs))) × (p ≡ get_or (drop 1 (enumerate_from 0 fs)) n p)
 
--- a turn of the loop over the fields: field k of fs is at offset at, its bytes end at end, and ns are the values before it
-module _ (kind : Kind) (xs : List ℕ) (fs : List (List ℕ)) (ns : List ℕ) (k at end : ℕ) (here : drop k fs ≡ parted 9 (drop at xs)) (is : end ≡ at + length (before 9 (drop at xs))) where
-  first : drop k fs ≡ before 9 (drop at xs) ∷ drop 1 (parted 9 (drop at xs))
-  first = here ∙ parted_first 9 (drop at xs)
+-- what is left of the values, where ns are those before the turn
+abbrev pub values_left : Kind → List (List ℕ) → List ℕ → ℕ → Result (List ℕ) LineFault
+values_left kind fs ns n = on_ok (λ ms. ns ++ ms) (values_of kind (n + 1) (offset_of fs (n + 1)) (drop (n + 1) fs))
 
-  fields_rest : drop (k + 1) fs ≡ drop 1 (parted 9 (drop at xs))
-  fields_rest = sym (drop-drop 1 k fs) ∙ ap (drop 1) first
+-- a loop over them, by the chain that it goes over
+module _ {S A : Type 0} {steps : S → Option A → S → Type 0} {s : S} {v : A → ℕ × List ℕ} (xs : List ℕ) (seen : List A) (t : S) (by : Yields steps s seen t) (r : Option A) (u : S) (step : steps t r u) where
+  pub turn_is : (x : A) → r ≡ Some x → YieldsList steps v s (drop 1 (enumerate_from 0 (parted 9 xs))) → IsTurn (parted 9 xs) (length seen) (v x)
+  turn_is x is given = YieldsList-turn given seen t by r u x is step
 
-  pub fields_on : end < length xs → drop (k + 1) fs ≡ parted 9 (drop (end + 1) xs)
-  fields_on l = fields_rest ∙ ap (drop 1) (piece_more 9 xs at end is l)
+  pub end_is : r ≡ None → YieldsList steps v s (drop 1 (enumerate_from 0 (parted 9 xs))) → length seen ≡ tally 9 xs
+  end_is is given =
+      omega (
+        arith,
+        (YieldsList-end given seen t by r u is step).1,
+        length-drop 1 (enumerate_from 0 (parted 9 xs)),
+        length-enumerate_from 0 (parted 9 xs),
+        length-parted 9 xs,
+      )
 
-  pub fields_none : at ≤ length xs → length xs ≤ end → drop (k + 1) fs ≡ []
-  fields_none h l = fields_rest ∙ ap (drop 1) (piece_end 9 xs at end h is l)
+-- at the end no value is left
+pub values_end : (kind : Kind) (xs ns : List ℕ) (n : ℕ) → n ≡ tally 9 xs → Ok ns ≡ values_left kind (parted 9 xs) ns n
+values_end kind xs ns n e =
+    let fs = parted 9 xs in
+    let none : drop (n + 1) fs ≡ [] = drop_all (n + 1) fs (omega (arith, length-parted 9 xs)) in
+    ap Ok (sym (append-nil ns)) ∙ ap (λ gs. on_ok (λ ms. ns ++ ms) (values_of kind (n + 1) (offset_of fs (n + 1)) gs)) (sym none)
 
-  -- the values from here on, by what this field reads as
-  here_values : (r : Result ℕ LineFault) → spotted k at (value_of kind k (take (end - at) (drop at xs))) ≡ r
-      → values_of kind k at (drop k fs) ≡ value_next r (values_of kind (k + 1) (end + 1) (drop (k + 1) fs))
-  here_values r e =
-      ap (values_of kind k at) first
-      ∙ ap (λ a. value_next a (values_of kind (k + 1) (at + length (before 9 (drop at xs)) + 1) (drop 1 (parted 9 (drop at xs))))) (ap (λ l. spotted k at (value_of kind k l)) (sym (piece_bytes 9 xs at end is)) ∙ e)
-      ∙ ap (λ i. value_next r (values_of kind (k + 1) (i + 1) (drop 1 (parted 9 (drop at xs))))) (sym is)
-      ∙ ap (λ l. value_next r (values_of kind (k + 1) (end + 1) l)) (sym fields_rest)
+module _ (fs : List (List ℕ)) (n : ℕ) (p : ℕ × List ℕ) (turn : IsTurn fs n p) where
+  pub turn_within : n + 1 < length fs
+  turn_within = omega (arith, turn.0, length-drop 1 (enumerate_from 0 fs), length-enumerate_from 0 fs)
 
-  -- a field that is malformed
-  pub turn_stop : (x : LineFault) → Err x ≡ spotted k at (value_of kind k (take (end - at) (drop at xs))) → Err x ≡ on_ok (λ ms. ns ++ ms) (values_of kind k at (drop k fs))
-  turn_stop x e = sym (ap (on_ok (λ ms. ns ++ ms)) (here_values (Err x) (sym e)))
+  numbered : p ≡ (1 + n, get_or fs (1 + n) p.1)
+  numbered =
+      turn.1 ∙ get_or-drop 1 (enumerate_from 0 fs) n p ∙ get_or-enumerate_from 0 fs (1 + n) p (omega (arith, turn_within))
+      ∙ ap (λ i. (i, get_or fs (1 + n) p.1)) (let s : 0 + (1 + n) ≡ 1 + n = omega arith in s)
 
-  -- a field that is a number
-  pub turn_more : (n : ℕ) → Ok n ≡ spotted k at (value_of kind k (take (end - at) (drop at xs)))
-      → on_ok (λ ms. (ns ++ n ∷ []) ++ ms) (values_of kind (k + 1) (end + 1) (drop (k + 1) fs)) ≡ on_ok (λ ms. ns ++ ms) (values_of kind k at (drop k fs))
-  turn_more n e = sym (ap (on_ok (λ ms. ns ++ ms)) (here_values (Ok n) (sym e)) ∙ on_ok_cons ns n (values_of kind (k + 1) (end + 1) (drop (k + 1) fs)))
+  field : p.0 ≡ n + 1
+  field = omega (arith, ap (λ q. q.0) numbered)
 
--- the k-th pair of numbers
-steps_more : (ns : List ℕ) (k : ℕ) → 2 * k + 1 < length ns → steps_of (drop (2 * k) ns) ≡ record { station = get_or ns (2 * k) 0; length = get_or ns (2 * k + 1) 0 } ∷ steps_of (drop (2 * (k + 1)) ns)
-steps_more ns k h =
-    let a = drop_more ns (2 * k) 0 (omega arith) in
-    let b = drop_more ns (2 * k + 1) 0 h in
-    let two : 2 * k + 1 + 1 ≡ 2 * (k + 1) = omega arith in
-    ap steps_of (a ∙ ap (λ l. get_or ns (2 * k) 0 ∷ l) (b ∙ ap (λ i. get_or ns (2 * k + 1) 0 ∷ drop i ns) two))
+  bytes : p.1 ≡ get_or fs (n + 1) p.1
+  bytes = ap (λ q. q.1) numbered ∙ ap (λ i. get_or fs i p.1) (let s : 1 + n ≡ n + 1 = omega arith in s)
+
+  parts : drop (n + 1) fs ≡ p.1 ∷ drop (n + 1 + 1) fs
+  parts = drop_more fs (n + 1) p.1 turn_within ∙ ap (λ f. f ∷ drop (n + 1 + 1) fs) (sym bytes)
+
+  module _ (kind : Kind) (ns : List ℕ) where
+    -- by what the field reads as
+    here : (r : Result ℕ LineFault) → r ≡ spotted p.0 (offset_of fs p.0) (value_of kind p.0 p.1)
+        → values_of kind (n + 1) (offset_of fs (n + 1)) (drop (n + 1) fs) ≡ value_next r (values_of kind (n + 1 + 1) (offset_of fs (n + 1 + 1)) (drop (n + 1 + 1) fs))
+    here r e =
+        let k = n + 1 in
+        ap (values_of kind k (offset_of fs k)) parts
+        ∙ ap (λ a. value_next a (values_of kind (k + 1) (offset_of fs k + length p.1 + 1) (drop (k + 1) fs)))
+        (ap (λ i. spotted i (offset_of fs i) (value_of kind i p.1)) (sym field) ∙ sym e)
+        ∙ ap (value_next r) (values_behind kind fs k p.1 (drop (k + 1) fs) parts)
+
+    -- a field that is malformed
+    pub turn_stop : (x : LineFault) → Err x ≡ spotted p.0 (offset_of fs p.0) (value_of kind p.0 p.1) → Err x ≡ values_left kind fs ns n
+    turn_stop x e = sym (ap (on_ok (λ ms. ns ++ ms)) (here (Err x) e))
+
+    -- a field that is a number
+    pub turn_more : (m : ℕ) → Ok m ≡ spotted p.0 (offset_of fs p.0) (value_of kind p.0 p.1) → values_left kind fs (ns ++ m ∷ []) (n + 1) ≡ values_left kind fs ns n
+    turn_more m e = sym (ap (on_ok (λ ms. ns ++ ms)) (here (Ok m) e) ∙ on_ok_cons ns m (values_of kind (n + 1 + 1) (offset_of fs (n + 1 + 1)) (drop (n + 1 + 1) fs)))
+
+-- a pair of numbers in front
+pub steps_pair : (p ns : List ℕ) → length p ≡ 2 → steps_of (p ++ ns) ≡ record { station = get_or p 0 0; length = get_or p 1 0 } ∷ steps_of ns
+steps_pair [] ns h = absurd (omega arith)
+steps_pair (s ∷ []) ns h = absurd (omega arith)
+steps_pair (s ∷ l ∷ []) ns h = refl
+steps_pair (s ∷ l ∷ m ∷ p) ns h = absurd (omega arith)
 
 -- no pair is left
 pub steps_short : (ns : List ℕ) → length ns < 2 → steps_of ns ≡ []
 steps_short [] h = refl
 steps_short (n ∷ []) h = refl
 steps_short (n ∷ m ∷ ns) h = absurd (omega arith)
-
--- a turn of the loop over the pairs
-pub steps_turn : (items : List Step) (ns : List ℕ) (len k : ℕ) → k < length items → 2 * k + 1 < len → len ≤ length ns
-    → take k items ++ steps_of (drop (2 * k) (take len ns)) ≡ steps_of (take len ns)
-    → take (k + 1) (set items k (record { station = get_or ns (2 * k) 0; length = get_or ns (2 * k + 1) 0 })) ++ steps_of (drop (2 * (k + 1)) (take len ns)) ≡ steps_of (take len ns)
-steps_turn items ns len k h l w inv =
-    let s : Step = record { station = get_or ns (2 * k) 0; length = get_or ns (2 * k + 1) 0 } in
-    let rest = steps_of (drop (2 * (k + 1)) (take len ns)) in
-    let t = length-take-le len ns w in
-    ap (λ l. l ++ rest) (take_more_set items k s h)
-    ∙ append_assoc (take k items) (s ∷ []) rest
-    ∙ ap (λ l. take k items ++ l) (sym (steps_more (take len ns) k (omega arith)
-    ∙ ap (λ x. record { station = x; length = get_or (take len ns) (2 * k + 1) 0 } ∷ rest) (get_or-take len ns (2 * k) 0 (omega arith))
-    ∙ ap (λ x. record { station = get_or ns (2 * k) 0; length = x } ∷ rest) (get_or-take len ns (2 * k + 1) 0 l)))
-    ∙ inv

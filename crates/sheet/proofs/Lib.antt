@@ -1,3 +1,4 @@
+pub mod Contexts
 pub mod Fields
 pub mod Readings
 pub mod Running

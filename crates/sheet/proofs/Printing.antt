@@ -1,36 +1,25 @@
 -- The lines of faults and entries, and what printing them answers.
-use Rattle.std.proofs.Common.{◌≡◌, ℕ, ◌*◌, ◌^◌, ◌<◌, ◌≤◌, List, [], ◌∷◌, length, IsErrAnd, Ok, Err, Result, ap, ◌∙◌, arith}
+use Rattle.std.proofs.Common.{◌≡◌, ◌*◌, ◌^◌, ◌<◌, ◌≤◌, List, [], ◌∷◌, length, ap, ◌∙◌, arith, ℕ, Result}
 use Rattle.std.proofs.lemmas.List.{length-append}
 use Rattle.std.specs.List.{flat_map, AllByRecursion}
-use Rattle.std.proofs.lemmas.Result.{err_from_is_err_and}
 use Rattle.text.proofs.Texts.{cell_short, length-line_text}
 use Rattle.text.specs.Cells.{cell_text, cell_field, line_text}
 use Rattle.text.specs.Print.{printed_into}
 use Rattle.text.specs.declared.cells.Cell.{Cell}
 use Rattle.text.specs.declared.cells.Cell.TheVariants.{Number, Symbol}
-use Rattle.text.specs.declared.cells.PrintFault.{PrintFault}
 use Rattle.sheet.specs.declared.fault.FaultReport.{FaultReport}
+use Rattle.sheet.specs.declared.fault.Layer.{Layer}
+use Rattle.sheet.specs.declared.fault.Layer.TheVariants as layer
 use Rattle.sheet.specs.declared.fault.SheetFault.{SheetFault}
-use Rattle.sheet.specs.declared.fault.SheetFault.TheVariants.{NoRoom}
 use Rattle.sheet.specs.declared.run.Entry.{Entry}
-use Rattle.sheet.specs.Faults.{sheet_report_of}
+use Rattle.sheet.specs.Faults.{layer_number, sheet_report_of}
+use Rattle.sheet.specs.Letters.{letter_of}
 use Rattle.sheet.specs.Texts.{fault_cells, fault_text, entry_cells, entry_text, sheet_answer}
 
--- bs, which are the text t, are printed into xs
-module _ (xs bs t : List ℕ) (is : bs ≡ t) where
-  -- what is left of xs
-  pub printed_after : (o : List ℕ) → o ≡ (printed_into bs xs).1 → o ≡ (printed_into t xs).1
-  printed_after o e = e ∙ ap (λ l. (printed_into l xs).1) is
-
-  -- they fit
-  pub printed_fits : (n : ℕ) → Ok n ≡ (printed_into bs xs).0 → Ok n ≡ sheet_answer (printed_into t xs).0
-  printed_fits n e = ap sheet_answer e ∙ ap (λ l. sheet_answer (printed_into l xs).0) is
-
-  -- they do not: the sheet refuses by r
-  pub printed_refused : (r : Result ℕ SheetFault) (e : PrintFault) → IsErrAnd r (λ y. y ≡ NoRoom) → Err e ≡ (printed_into bs xs).0 → r ≡ sheet_answer (printed_into t xs).0
-  printed_refused r e h q =
-      let p = err_from_is_err_and r h in
-      p.1 ∙ ap Err p.2 ∙ ap sheet_answer q ∙ ap (λ l. sheet_answer (printed_into l xs).0) is
+-- what printing the bytes t answers and leaves, where they are those of u
+pub printed_as : (t u xs ys : List ℕ) (r : Result ℕ SheetFault) → r ≡ sheet_answer (printed_into t xs).0 → ys ≡ (printed_into t xs).1 → t ≡ u
+    → (r ≡ sheet_answer (printed_into u xs).0) × (ys ≡ (printed_into u xs).1)
+printed_as t u xs ys r h l is = (h ∙ ap (λ b. sheet_answer (printed_into b xs).0) is, l ∙ ap (λ b. (printed_into b xs).1) is)
 
 -- the line of an entry
 pub entry_line : (e : Entry) (cs : List Cell) → cs ≡ entry_cells e → line_text (Number e.line) cs ≡ entry_text e
@@ -62,13 +51,19 @@ entry_short e l a =
     omega (
       arith,
       length-line_text (Number e.line) (entry_cells e),
-      length-append (cell_field (Symbol e.letter)) (flat_map cell_field (Number e.answer ∷ [])),
+      length-append (cell_field (Symbol (letter_of e.kind))) (flat_map cell_field (Number e.answer ∷ [])),
       cell_short e.line l,
       joined_short (Number e.answer ∷ []) (a, tt),
     )
 
-pub fault_short : (f : SheetFault) (r : FaultReport) → r ≡ sheet_report_of f → r.line < 2 ^ 64 → r.layer < 2 ^ 64 → r.refusal < 2 ^ 64
+layer_small : (l : Layer) → layer_number l < 2 ^ 64
+layer_small layer.Text = omega arith
+layer_small layer.Record = omega arith
+layer_small layer.Board = omega arith
+layer_small layer.Sheet = omega arith
+
+pub fault_short : (f : SheetFault) (r : FaultReport) → r ≡ sheet_report_of f → r.line < 2 ^ 64 → r.refusal < 2 ^ 64
     → r.field < 2 ^ 64 → r.offset < 2 ^ 64 → length (fault_text f) ≤ 107
 unfolding fault_text
-fault_short f r e a b c d g =
-    omega (arith, ap (λ x. length (line_text (Symbol 69) (fault_cells x))) e, length-line_text (Symbol 69) (fault_cells r), joined_short (fault_cells r) (a, (b, (c, (d, (g, tt))))))
+fault_short f r e a c d g =
+    omega (arith, ap (λ x. length (line_text (Symbol 69) (fault_cells x))) e, length-line_text (Symbol 69) (fault_cells r), joined_short (fault_cells r) (a, (layer_small r.layer, (c, (d, (g, tt))))))

@@ -1,4 +1,5 @@
 pub mod Faults
+pub mod Letters
 pub mod Reading
 pub mod Line
 pub mod Run

@@ -1,5 +1,5 @@
 -- What a line of a sheet asks for.
-use Rattle.std.specs.Prelude.{◌≡◌, ℕ, zero, suc, ◌+◌, ◌%◌, ◌<◌, ◌≤◌, Bool, cond, ◌&&◌, List, [], ◌∷◌, length, take, drop, Some, None, Ok, Err, Option, Result, ◌==◌, nat_le, slice_index, slice_index_or}
+use Rattle.std.specs.Prelude.{◌≡◌, ℕ, zero, suc, ◌+◌, ◌%◌, ◌<◌, Bool, if◌then◌else◌, ◌&&◌, List, [], ◌∷◌, length, take, drop, Some, None, Ok, Err, Option, Result, ◌==◌, nat_le, slice_index, slice_index_or}
 use Rattle.std.specs.Result.{result_map_both}
 use Rattle.hall.specs.declared.step.Step.{Step}
 use Rattle.hall.specs.Rules.{Call, enter, begin, finish, pass}
@@ -8,16 +8,15 @@ use Rattle.text.specs.Number.{number_of, minutes_of}
 use Rattle.text.specs.Split.{parted}
 use Rattle.sheet.specs.declared.fault.LineFault.{LineFault}
 use Rattle.sheet.specs.declared.fault.LineFault.TheVariants.{Number, KindUnknown, FieldCount}
+use Rattle.sheet.specs.declared.fault.Spot.{Spot}
 use Rattle.sheet.specs.declared.kind.Kind.{Kind}
 use Rattle.sheet.specs.declared.kind.Kind.TheVariants.{Vehicle, Begin, Finish, Pass}
-use Rattle.sheet.specs.declared.reading.Numbers.{Numbers}
 use Rattle.sheet.specs.declared.reading.Request.{Request}
 use Rattle.sheet.specs.declared.reading.Request.TheVariants as request
-use Rattle.sheet.specs.declared.reading.Steps.{Steps}
 
 -- the letters V, B, F and T
 abbrev pub letter : ℕ → Option Kind
-letter b = cond (b == 86) (Some Vehicle) (cond (b == 66) (Some Begin) (cond (b == 70) (Some Finish) (cond (b == 84) (Some Pass) None)))
+letter b = if b == 86 then Some Vehicle else if b == 66 then Some Begin else if b == 70 then Some Finish else if b == 84 then Some Pass else None
 
 -- the kind that a field names: it is exactly one letter
 abbrev pub kind_of : List ℕ → Option Kind
@@ -47,14 +46,14 @@ FieldsStand bs =
 
 -- what field k of a line of this kind writes: lengths and minutes, or the number of a station or a vehicle
 abbrev pub value_of : Kind → ℕ → List ℕ → Result ℕ NumberFault
-value_of Vehicle k f = cond (k % 2 == 0) (minutes_of f) (number_of f)
+value_of Vehicle k f = if k % 2 == 0 then minutes_of f else number_of f
 value_of Begin k f = number_of f
 value_of Finish k f = number_of f
 value_of Pass k f = minutes_of f
 
 -- a value, with its field and offset where it is malformed
 abbrev pub spotted : ℕ → ℕ → Result ℕ NumberFault → Result ℕ LineFault
-spotted k at r = result_map_both (λ n. n) (λ e. Number e k at) r
+spotted k at r = result_map_both (λ n. n) (λ e. Number e (record { field = k; offset = at })) r
 
 -- f of what an answer holds
 abbrev pub on_ok : {X Y E : Type 0} → (X → Y) → Result X E → Result Y E
@@ -86,7 +85,7 @@ call_for Pass ns = pass (slice_index ns 0)
 -- the call that a line with these fields asks for; the first number is field 1 and stands behind the letter and its tab
 abbrev pub fields_read : List (List ℕ) → Option Kind → Result Call LineFault
 fields_read fs None = Err KindUnknown
-fields_read fs (Some k) = cond (count_fits k (length fs)) (on_ok (call_for k) (values_of k 1 2 (drop 1 fs))) (Err FieldCount)
+fields_read fs (Some k) = if count_fits k (length fs) then on_ok (call_for k) (values_of k 1 2 (drop 1 fs)) else Err FieldCount
 
 -- the call that a line asks for, or why it cannot be read
 abbrev pub reading_of : List ℕ → Result Call LineFault
@@ -95,26 +94,18 @@ reading_of bs = fields_read (parted 9 bs) (kind_of (slice_index_or (parted 9 bs)
 -- the offset that a malformed number is told at is that of its field
 abbrev pub NumbersSpotted : List ℕ → Type 0
 NumbersSpotted bs =
-    (e : NumberFault) (k at : ℕ) → reading_of bs ≡ Err (Number e k at) → (k < length (parted 9 bs)) × (at ≡ offset_of (parted 9 bs) k)
-
--- the numbers of a table
-abbrev pub listed : Numbers → List ℕ
-listed n = take n.len n.items
-
--- the steps of a table
-abbrev pub booking : Steps → List Step
-booking s = take s.len s.items
+    (e : NumberFault) (spot : Spot) → reading_of bs ≡ Err (Number e spot) → (spot.field < length (parted 9 bs)) × (spot.offset ≡ offset_of (parted 9 bs) spot.field)
 
 -- the call that a request stands for
 abbrev pub call_of : Request → Call
-call_of (request.Enter ss) = enter (booking ss)
+call_of (request.Enter ss) = enter ss.items
 call_of (request.Begin v) = begin v
 call_of (request.Finish v) = finish v
 call_of (request.Pass m) = pass m
 
--- the steps of a request are within their table
-abbrev pub Within : Request → Type 0
-Within (request.Enter ss) = ss.len ≤ 8
-Within (request.Begin v) = Unit {0}
-Within (request.Finish v) = Unit {0}
-Within (request.Pass m) = Unit {0}
+-- the kind of the lines that ask for a request
+abbrev pub asking : Request → Kind
+asking (request.Enter ss) = Vehicle
+asking (request.Begin v) = Begin
+asking (request.Finish v) = Finish
+asking (request.Pass m) = Pass

@@ -1,13 +1,17 @@
 -- A sheet being run, one line at a time.
-use Rattle.std.specs.Prelude.{ℕ, ◌+◌, cond, List, [], ◌∷◌, length, drop, Some, None, Ok, Err, Option, Result, nat_lt, slice_index}
+use Rattle.std.specs.Prelude.{◌≡◌, ℕ, ◌+◌, if◌then◌else◌, List, [], ◌∷◌, length, drop, Some, None, Ok, Err, Option, Result, nat_lt, slice_index, slice_index_or}
 use Rattle.hall.specs.Log.{Log}
 use Rattle.text.specs.Split.{ended}
 use Rattle.sheet.specs.declared.fault.LineFault.{LineFault}
+use Rattle.sheet.specs.declared.fault.LineFault.TheVariants.{KindUnknown}
 use Rattle.sheet.specs.declared.fault.SheetFault.{SheetFault}
 use Rattle.sheet.specs.declared.fault.SheetFault.TheVariants.{TooLong, AtLine}
+use Rattle.sheet.specs.declared.kind.Kind.{Kind}
 use Rattle.sheet.specs.declared.run.Entry.{Entry}
 use Rattle.sheet.specs.declared.run.Cursor.{Cursor}
+use Rattle.sheet.specs.Letters.{letter_of}
 use Rattle.sheet.specs.Line.{line_answer, line_log}
+use Rattle.sheet.specs.Reading.{letter}
 
 -- the lines of the text that are left
 abbrev pub left : List ℕ → Cursor → List (List ℕ)
@@ -23,11 +27,16 @@ standing bs cursor = (left bs cursor, number cursor)
 
 -- where a run of these bytes begins: the text of a sheet has at most 60,000 bytes, and its first line is line 1
 abbrev pub opened_of : List ℕ → Result (List (List ℕ) × ℕ) SheetFault
-opened_of bs = cond (nat_lt 60000 (length bs)) (Err TooLong) (Ok (ended 10 bs, 1))
+opened_of bs = if nat_lt 60000 (length bs) then Err TooLong else Ok (ended 10 bs, 1)
+
+-- line k, which is of this kind, answered n; a line of no kind is refused
+abbrev pub entry_for : ℕ → ℕ → Option Kind → Result (Option Entry) SheetFault
+entry_for k n (Some kind) = Ok (Some (record { line = k; kind = kind; answer = n }))
+entry_for k n None = Err (AtLine k KindUnknown)
 
 -- line k, whose first byte is b, answered this
 abbrev pub entry_of : ℕ → ℕ → Result ℕ LineFault → Result (Option Entry) SheetFault
-entry_of k b (Ok n) = Ok (Some (record { line = k; letter = b; answer = n }))
+entry_of k b (Ok n) = entry_for k n (letter b)
 entry_of k b (Err f) = Err (AtLine k f)
 
 -- what the next of these lines gives on a hall with this log; it is line k
@@ -44,3 +53,7 @@ log_next (l ∷ ls) log = line_log log l
 abbrev pub number_next : ℕ → List (List ℕ) → ℕ
 number_next k [] = k
 number_next k (l ∷ ls) = k + 1
+
+-- the letter of an entry is the first byte of its line
+abbrev pub Lettered : Type 0
+Lettered = (k : ℕ) (ls : List (List ℕ)) (log : Log) (e : Entry) → next_of k ls log ≡ Ok (Some e) → letter_of e.kind ≡ slice_index (slice_index_or ls 0 []) 0

@@ -9,19 +9,20 @@ use Rattle.sheet.specs.declared.fault.FaultReport.{FaultReport}
 use Rattle.sheet.specs.declared.fault.SheetFault.{SheetFault}
 use Rattle.sheet.specs.declared.fault.SheetFault.TheVariants.{NoRoom}
 use Rattle.sheet.specs.declared.run.Entry.{Entry}
-use Rattle.sheet.specs.Faults.{sheet_report_of}
+use Rattle.sheet.specs.Faults.{layer_number, sheet_report_of}
+use Rattle.sheet.specs.Letters.{letter_of}
 
 -- the numbers of a fault, in the order in which they are printed
 abbrev pub fault_cells : FaultReport → List Cell
-fault_cells r = Number r.line ∷ Number r.layer ∷ Number r.refusal ∷ Number r.field ∷ Number r.offset ∷ []
+fault_cells r = Number r.line ∷ Number (layer_number r.layer) ∷ Number r.refusal ∷ Number r.field ∷ Number r.offset ∷ []
 
 -- the letter E and the numbers of a fault
 unfoldable pub fault_text : SheetFault → List ℕ
 fault_text f = line_text (Symbol 69) (fault_cells (sheet_report_of f))
 
--- the letter of an accepted line and its call's answer
+-- the letter of an accepted line's kind and its call's answer
 abbrev pub entry_cells : Entry → List Cell
-entry_cells e = Symbol e.letter ∷ Number e.answer ∷ []
+entry_cells e = Symbol (letter_of e.kind) ∷ Number e.answer ∷ []
 
 -- the number of an accepted line, its letter and its call's answer
 unfoldable pub entry_text : Entry → List ℕ

@@ -1,6 +1,6 @@
 // Why a line or a sheet is refused, and the numbers by which that is told.
 ghost use Rattle.std.specs.Prelude.{◌≡◌};
-ghost use Rattle.sheet.specs.Faults.{beside_of, whole_report, report_of, sheet_report_of};
+ghost use Rattle.sheet.specs.Faults.{whole_report, report_of, sheet_report_of};
 ghost use Rattle.sheet.specs.declared.fault.LineFault.TheVariants as lines;
 ghost use Rattle.sheet.specs.declared.fault.SheetFault.TheVariants as sheets;
 
@@ -8,20 +8,20 @@ use hall::fault::BoardFault;
 use text::cells::PrintFault;
 use text::number::NumberFault;
 
-// Why a line is refused. Fields are counted from 0, and an offset is that of the field's first byte in the line.
+// A field of a line and its byte offset. Fields are counted from 0, and an offset is that of the field's first byte.
+#[derive(Clone, Copy, Debug, PartialEq)]
+pub struct Spot {
+    pub field: usize,
+    pub offset: usize,
+}
+
+// Why a line is refused.
 #[derive(Clone, Copy, Debug, PartialEq)]
 pub enum LineFault {
-    Number {
-        fault: NumberFault,
-        field: usize,
-        offset: usize,
-    },
+    Number { fault: NumberFault, spot: Spot },
     KindUnknown,
     FieldCount,
-    Board {
-        fault: BoardFault,
-        offset: usize,
-    },
+    Board { fault: BoardFault, offset: usize },
 }
 
 // Why a sheet is refused. Lines are counted from 1.
@@ -32,18 +32,27 @@ pub enum SheetFault {
     AtLine { line: usize, fault: LineFault },
 }
 
-// The numbers by which a fault is told. The layers are 1 the text, 2 the record, 3 the board, 4 the sheet itself.
+// What refuses: the text of a number, the record of a line, the board, or the sheet itself. The rules number the layers.
+#[derive(Clone, Copy, Debug, PartialEq)]
+pub enum Layer {
+    Text = 1,
+    Record = 2,
+    Board = 3,
+    Sheet = 4,
+}
+
+// What is told of a fault. The rules number refusals, over all layers.
 #[derive(Clone, Copy, Debug, PartialEq)]
 pub struct FaultReport {
     pub line: usize,
-    pub layer: u32,
+    pub layer: Layer,
     pub refusal: u32,
     pub field: usize,
     pub offset: usize,
 }
 
 // The report of a fault that is about no field.
-fn whole(line: usize, layer: u32, refusal: u32) -> FaultReport
+fn whole(line: usize, layer: Layer, refusal: u32) -> FaultReport
     ensures { result ≡ whole_report line layer refusal }
 {
     FaultReport {
@@ -61,18 +70,18 @@ impl LineFault {
         ensures { result ≡ report_of line self.now }
     {
         match self {
-            LineFault::Number { field, offset, .. } => FaultReport {
+            LineFault::Number { spot, .. } => FaultReport {
                 line,
-                layer: 1,
+                layer: Layer::Text,
                 refusal: 1,
-                field: *field,
-                offset: *offset,
+                field: spot.field,
+                offset: spot.offset,
             },
-            LineFault::KindUnknown => whole(line, 2, 2),
-            LineFault::FieldCount => whole(line, 2, 3),
+            LineFault::KindUnknown => whole(line, Layer::Record, 2),
+            LineFault::FieldCount => whole(line, Layer::Record, 3),
             LineFault::Board { fault, offset } => FaultReport {
                 line,
-                layer: 3,
+                layer: Layer::Board,
                 refusal: fault.refusal(),
                 field: fault.field(),
                 offset: *offset,
@@ -87,28 +96,20 @@ impl SheetFault {
         ensures { result ≡ sheet_report_of self.now }
     {
         match self {
-            SheetFault::TooLong => whole(0, 4, 5),
-            SheetFault::NoRoom => whole(0, 4, 35),
+            SheetFault::TooLong => whole(0, Layer::Sheet, 5),
+            SheetFault::NoRoom => whole(0, Layer::Sheet, 35),
             SheetFault::AtLine { line, fault } => fault.report(*line),
         }
     }
 }
 
-// A field of a line, and its byte offset.
-#[derive(Clone, Copy)]
-pub struct Spot {
-    pub field: usize,
-    pub offset: usize,
-}
-
 impl From<(Spot, NumberFault)> for LineFault {
-    ghost from_gives = { λ e r. r ≡ lines.Number e.1 e.0.field e.0.offset };
+    ghost from_gives = { λ e r. r ≡ lines.Number e.1 e.0 };
 
     fn from(e: (Spot, NumberFault)) -> LineFault {
         LineFault::Number {
             fault: e.1,
-            field: e.0.field,
-            offset: e.0.offset,
+            spot: e.0,
         }
     }
 }
@@ -140,15 +141,5 @@ impl From<PrintFault> for SheetFault {
 
     fn from(_e: PrintFault) -> SheetFault {
         SheetFault::NoRoom
-    }
-}
-
-// The answer, with the context of its fault put beside the fault.
-pub(crate) fn beside<X: Drop, T, E>(context: X, answer: Result<T, E>) -> Result<T, (X, E)>
-    ensures { result ≡ beside_of context answer }
-{
-    match answer {
-        Ok(value) => Ok(value),
-        Err(fault) => Err((context, fault)),
     }
 }

@@ -1,13 +1,18 @@
 // The kind of a line, which its first field names.
-ghost use Rattle.std.specs.Prelude.{◌≡◌, ◌+◌};
-ghost use Rattle.sheet.specs.Reading.{kind_of, count_fits};
+ghost use Rattle.std.specs.Prelude.{◌≡◌, ◌+◌, Some};
+ghost use Rattle.std.specs.Option.{ok_or};
+ghost use Rattle.sheet.specs.Reading.{letter, kind_of, count_fits};
+ghost use Rattle.sheet.specs.Letters.{letter_of};
+ghost use Rattle.sheet.specs.declared.fault.LineFault.TheVariants as lines;
+
+use crate::fault::LineFault;
 
 // The most pairs of station and length that a vehicle's line has.
 const MOST_PAIRS: usize = 8;
 
 // What a line is about: a vehicle that enters, a step that begins or finishes, or minutes that pass.
-#[derive(Clone, Copy)]
-pub(crate) enum Kind {
+#[derive(Clone, Copy, Debug, PartialEq)]
+pub enum Kind {
     Vehicle,
     Begin,
     Finish,
@@ -15,28 +20,47 @@ pub(crate) enum Kind {
 }
 
 // The kind that a field names by its one byte.
-pub(crate) fn read_kind(field: &[u8]) -> Option<Kind>
-    ensures { result ≡ kind_of field.now }
-{
-    if field.len() != 1 {
-        return None;
-    }
-    match field[0] as char {
-        'V' => Some(Kind::Vehicle),
-        'B' => Some(Kind::Begin),
-        'F' => Some(Kind::Finish),
-        'T' => Some(Kind::Pass),
-        _ => None,
+impl TryFrom<&[u8]> for Kind {
+    type Error = LineFault;
+
+    ghost try_from_gives = { λ field r. r ≡ ok_or (kind_of field.now) lines.KindUnknown };
+
+    fn try_from(field: &[u8]) -> Result<Kind, LineFault> {
+        let [byte] = field else {
+            return Err(LineFault::KindUnknown);
+        };
+        match *byte as char {
+            'V' => Ok(Kind::Vehicle),
+            'B' => Ok(Kind::Begin),
+            'F' => Ok(Kind::Finish),
+            'T' => Ok(Kind::Pass),
+            _ => Err(LineFault::KindUnknown),
+        }
     }
 }
 
-// Whether a line of this kind may have `tabs` tabs, and so one field more: a vehicle has 1 to 8 pairs of numbers, the
-// others have one number.
-pub(crate) fn count_fits(kind: Kind, tabs: usize) -> bool
-    ensures { result ≡ count_fits kind (tabs + 1) }
-{
-    match kind {
-        Kind::Vehicle => tabs >= 2 && tabs <= 2 * MOST_PAIRS && tabs % 2 == 0,
-        _ => tabs == 1,
+impl Kind {
+    // The letter that names the kind.
+    pub fn letter(self) -> u8
+        ensures value { result ≡ letter_of self }
+        ensures names { letter result ≡ Some self }
+    {
+        match self {
+            Kind::Vehicle => b'V',
+            Kind::Begin => b'B',
+            Kind::Finish => b'F',
+            Kind::Pass => b'T',
+        }
+    }
+
+    // Whether a line of this kind may have `tabs` tabs, and so one field more: a vehicle has 1 to 8 pairs of numbers,
+    // the others have one number.
+    pub(crate) fn fits(self, tabs: usize) -> bool
+        ensures { result ≡ count_fits self (tabs + 1) }
+    {
+        match self {
+            Kind::Vehicle => (2..=2 * MOST_PAIRS).contains(&tabs) && tabs % 2 == 0,
+            _ => tabs == 1,
+        }
     }
 }

@@ -2,7 +2,7 @@
 #![tactic(auto)]
 
 pub mod fault;
-mod kind;
+pub mod kind;
 pub mod line;
 pub mod print;
 mod reading;

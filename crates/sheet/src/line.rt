@@ -1,22 +1,22 @@
 // One line of a sheet, run on the board.
-ghost use Rattle.std.specs.Prelude.{◌≡◌};
+ghost use Rattle.std.specs.Prelude.{◌≡◌, IfOk, Some, slice_index};
 ghost use Rattle.hall.specs.Hall.{Called};
 ghost use Rattle.text.specs.Split.{parted};
 ghost use Rattle.sheet.specs.Line.{placed_of, LineCalled};
-ghost use Rattle.sheet.specs.Reading.{call_of, Within, FieldsStand, NumbersSpotted};
+ghost use Rattle.sheet.specs.Reading.{letter, on_ok, call_of, FieldsStand, NumbersSpotted};
 
-use crate::fault::{LineFault, beside};
+use crate::fault::LineFault;
+use crate::kind::Kind;
 use crate::reading::{Request, offset, read};
 use hall::board::Board;
 use hall::fault::BoardFault;
 
 // Makes a call of the board.
 fn make(board: &mut Board, request: &Request) -> Result<u32, BoardFault>
-    requires { Within request.now }
     ensures called { Called board.old (call_of request.now) result board.new }
 {
     match request {
-        Request::Enter(steps) => board.enter(&steps.items[0..steps.len]),
+        Request::Enter(steps) => board.enter(steps.as_slice()),
         Request::Begin(vehicle) => board.begin(*vehicle),
         Request::Finish(vehicle) => board.finish(*vehicle),
         Request::Pass(minutes) => board.pass(*minutes),
@@ -27,11 +27,17 @@ fn make(board: &mut Board, request: &Request) -> Result<u32, BoardFault>
 fn place(bytes: &[u8], answer: Result<u32, BoardFault>) -> Result<u32, LineFault>
     ensures { result ≡ placed_of (parted 9 bytes.now) answer }
 {
-    let field = match &answer {
-        Ok(_) => 0,
-        Err(fault) => fault.field(),
-    };
-    Ok(beside(offset(bytes, field), answer)?)
+    Ok(answer.map_err(|fault| (offset(bytes, fault.field()), fault))?)
+}
+
+// Makes the call that a line asks for, and answers the line's kind and what the board answered.
+pub(crate) fn run(board: &mut Board, bytes: &[u8]) -> Result<(Kind, u32), LineFault>
+    ensures called { LineCalled board.old bytes.now (on_ok (λ a. a.1) result) board.new }
+    ensures kind { IfOk result (λ a. letter (slice_index bytes.now 0) ≡ Some a.0) }
+{
+    let request = read(bytes)?;
+    let answer = place(bytes, make(board, &request))?;
+    Ok((request.kind(), answer))
 }
 
 // Makes the call that a line asks for, and answers what the board answered.
@@ -40,7 +46,5 @@ pub fn line(board: &mut Board, bytes: &[u8]) -> Result<u32, LineFault>
     ensures fields { FieldsStand bytes.now }
     ensures spots { NumbersSpotted bytes.now }
 {
-    let request = read(bytes)?;
-    let answer = make(board, &request);
-    place(bytes, answer)
+    run(board, bytes).map(|(_, answer)| answer)
 }

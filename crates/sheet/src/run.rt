@@ -1,13 +1,15 @@
 // A sheet being run, one line at a time.
 ghost use Rattle.std.specs.Prelude.{◌≤◌};
 
+use crate::kind::Kind;
+
 pub mod lines;
 
-// What an accepted line did: its number, counted from 1, the letter of its kind and what its call answered.
+// What an accepted line did: its number, counted from 1, its kind and what its call answered.
 #[derive(Clone, Copy, Debug, PartialEq)]
 pub struct Entry {
     pub line: usize,
-    pub letter: u8,
+    pub kind: Kind,
     pub answer: u32,
 }
 

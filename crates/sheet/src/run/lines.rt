@@ -1,12 +1,12 @@
 // The lines of a sheet, run in order.
-ghost use Rattle.std.specs.Prelude.{◌≡◌, ◌+◌, min, length, drop, OnErr, OnOk};
+ghost use Rattle.std.specs.Prelude.{◌≡◌, drop, OnErr, OnOk};
 ghost use Rattle.hall.specs.Hall.{hall_log};
 ghost use Rattle.sheet.specs.Reading.{on_ok};
-ghost use Rattle.sheet.specs.Run.{left, number, standing, opened_of, next_of, log_next, number_next};
+ghost use Rattle.sheet.specs.Run.{left, number, standing, opened_of, next_of, log_next, number_next, Lettered};
 
 use super::{Cursor, Entry};
-use crate::fault::{SheetFault, beside};
-use crate::line::line;
+use crate::fault::SheetFault;
+use crate::line::run;
 use hall::board::Board;
 use text::bytes::find;
 
@@ -15,17 +15,6 @@ const NEWLINE: u8 = 10;
 
 // The most bytes that a sheet has.
 const MOST_BYTES: usize = 60_000;
-
-// Where the line behind one that ends at `end` begins, or the end of the text where there is none.
-fn past(text: &[u8], end: usize) -> usize
-    ensures { result ≡ min (end + 1) (length text.now) }
-{
-    if end < text.len() {
-        end + 1
-    } else {
-        text.len()
-    }
-}
 
 impl Cursor {
     // A cursor at the first line of `text`.
@@ -40,26 +29,24 @@ impl Cursor {
 
     // Runs the next line of `text` on the board, and answers what it did, or None where no line is left. A line that
     // is refused leaves the board and the cursor as they were.
+    #[tactic(auto, using(crate::proofs::Running::next_log, crate::proofs::Running::next_rest, crate::proofs::Running::lettered,))]
     pub fn next(&mut self, text: &[u8], board: &mut Board) -> Result<Option<Entry>, SheetFault>
         ensures answer { result ≡ next_of (number self.old) (left text.now self.old) (hall_log board.old) }
         ensures log { hall_log board.new ≡ log_next (left text.now self.old) (hall_log board.old) }
         ensures unchanged { OnErr result ((board.new ≡ board.old) × (self.new ≡ self.old)) }
         ensures rest { OnOk result (left text.now self.new ≡ drop 1 (left text.now self.old)) }
         ensures counted { OnOk result (number self.new ≡ number_next (number self.old) (left text.now self.old)) }
+        ensures lettered { Lettered }
     {
         let at = self.at;
         if at >= text.len() {
             return Ok(None);
         }
         let end = find(text, at, NEWLINE);
-        let number = self.behind + 1;
-        let answer = beside(number, line(board, &text[at..end]))?;
-        self.at = past(text, end);
-        self.behind = number;
-        Ok(Some(Entry {
-            line: number,
-            letter: text[at],
-            answer,
-        }))
+        let line = self.behind + 1;
+        let (kind, answer) = run(board, &text[at..end]).map_err(|fault| (line, fault))?;
+        self.at = (end + 1).min(text.len());
+        self.behind = line;
+        Ok(Some(Entry { line, kind, answer }))
     }
 }

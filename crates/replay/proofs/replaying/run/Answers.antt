@@ -16,7 +16,7 @@ loop-entry-preserved c =
     let bs = c.args.text.now in
     let next = c.in_ok-entry.ensures in
     shows_more (vec_items c.loop-entry.shown) _ _ (number c.loop-entry.cursor) _ (left bs c.loop-entry.cursor) _ (hall_log c.loop-entry.board) _
-    c.in-Some.entry (ap Ok (sym c.in-Some.is) ∙ next.answer) c.in_ok-add_entry.ensures next.counted next.rest next.log c.loop-entry.invariant
+    c.in-Some.entry (ap Ok (sym c.in-Some.is) ∙ next.answer) c.in_ok-add.ensures next.counted next.rest next.log c.loop-entry.invariant
 
 pub returns-in_err-cursor : goal.returns-in_err-cursor
 returns-in_err-cursor c =

@@ -1,24 +1,30 @@
-use Rattle.std.proofs.Common.{◌≡◌, ◌*◌, ◌/◌, [], ◌++◌, length, take, drop, sym, ap, ◌∙◌, append-nil, arith}
-use Rattle.std.proofs.lemmas.List.{length-set, length-take-le, length-drop}
-use Rattle.sheet.specs.Reading.{steps_of, listed}
-use Rattle.sheet.proofs.Fields.{steps_turn, steps_short}
+use Rattle.std.proofs.Common.{◌≡◌, ◌++◌, length, get_or, sym, ap, ◌∙◌, append_assoc, append-nil, arith}
+use Rattle.std.proofs.lemmas.List.{length-append, length_push}
+use Rattle.std.specs.Slice.Iter.{chunks_exact_rest}
+use Rattle.sheet.specs.Reading.{steps_of}
+use Rattle.sheet.proofs.Fields.{steps_pair, steps_short}
 use Rattle.sheet.proofs.reading.pair_steps.Goals as goal
 
-pub loop-k-preserved : goal.loop-k-preserved
-loop-k-preserved c =
-    let long : length c.args.numbers.now.items ≡ 16 = omega arith in (
-      length-set c.loop-k.items c.loop-k.k _ ∙ c.loop-k.invariant.0,
-      steps_turn c.loop-k.items c.args.numbers.now.items c.args.numbers.now.len c.loop-k.k (omega arith) (omega arith) (omega arith) c.loop-k.invariant.1,
-    )
+pub push-requires : goal.push-requires
+push-requires c =
+    let cut = c.in-Some.ensures.steps.1 in
+    (omega arith, omega (arith, ap length cut.0, length-append c.in-Some.pair.now (chunks_exact_rest c.next.new.self)))
+
+pub loop-pair-preserved : goal.loop-pair-preserved
+loop-pair-preserved c =
+    let pair = c.in-Some.pair.now in
+    let rest = chunks_exact_rest c.next.new.self in
+    let cut = c.in-Some.ensures.steps.1 in
+    let two : length pair ≡ 2 = cut.1 ∙ c.loop-pair.invariant.pairs in
+    record {
+      pairs = c.in-Some.ensures.steps.0 ∙ c.loop-pair.invariant.pairs;
+      count = omega (arith, c.loop-pair.invariant.count, ap length cut.0, length-append pair rest, ap length c.push.ensures.items, length_push c.loop-pair.steps.items (record { station = get_or pair 0 0; length = get_or pair 1 0 }), two);
+      steps = ap (λ l. l ++ steps_of rest) c.push.ensures.items ∙ append_assoc c.loop-pair.steps.items _ (steps_of rest)
+          ∙ ap (λ l. c.loop-pair.steps.items ++ l) (sym (ap steps_of cut.0 ∙ steps_pair pair rest two)) ∙ c.loop-pair.invariant.steps;
+    }
 
 pub returns : goal.returns
 returns c =
-    let long : length c.args.numbers.now.items ≡ 16 = omega arith in
-    let ns = listed c.args.numbers.now in
-    let same : c.loop-k.k ≡ c.args.numbers.now.len / 2 = omega arith in
-    let t = length-take-le c.args.numbers.now.len c.args.numbers.now.items (omega arith) in
-    let none : steps_of (drop (2 * c.loop-k.k) ns) ≡ [] = steps_short (drop (2 * c.loop-k.k) ns) (omega (arith, length-drop (2 * c.loop-k.k) ns)) in
-    record {
-      value = ap (λ n. take n c.loop-k.items) (sym same) ∙ sym (append-nil _) ∙ ap (λ l. take c.loop-k.k c.loop-k.items ++ l) (sym none) ∙ c.loop-k.invariant.1;
-      len = omega arith;
-    }
+    sym (append-nil c.loop-pair.steps.items)
+    ∙ ap (λ l. c.loop-pair.steps.items ++ l) (sym (steps_short (chunks_exact_rest c.loop-pair.pair-iterator) (omega (arith, c.in-None.ensures.steps.1.0, c.loop-pair.invariant.pairs))))
+    ∙ c.loop-pair.invariant.steps

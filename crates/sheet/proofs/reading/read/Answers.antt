@@ -1,31 +1,35 @@
-use Rattle.std.proofs.Common.{Ok, Err, ap, ◌∙◌}
-use Rattle.std.proofs.lemmas.Result.{err_from_is_err_and, IfOk-from_err}
-use Rattle.sheet.specs.Reading.{on_ok, call_of, listed}
-use Rattle.sheet.proofs.Readings.{read_unknown, read_count, read_values}
+use Rattle.std.proofs.Common.{Some, Ok, Err, sym, ap, ◌∙◌}
+use Rattle.std.proofs.lemmas.Result.{err_from_is_err_and}
+use Rattle.sheet.specs.Reading.{on_ok, call_of}
+use Rattle.sheet.proofs.Readings.{read_unknown, read_letter, read_numbers_may, read_count, read_values}
 use Rattle.sheet.proofs.reading.read.Goals as goal
 
-pub returns-in_default : goal.returns-in_default
-returns-in_default c =
-    record { value = read_unknown c.args.bytes.now c.find-end.result c.find-end.ensures.is c.in_default.ensures; within = tt }
-
-pub returns-then-not-count_fits : goal.returns-then-not-count_fits
-returns-then-not-count_fits c =
-    let e = read_count c.args.bytes.now c.find-end.result c.find-end.ensures.is c.in-Some.kind c.in-Some.ensures
-    c.count-tabs.result c.count-tabs.ensures c.if-not-count_fits.ensures in
-    record { value = e; within = tt }
-
-pub returns-in_err-numbers : goal.returns-in_err-numbers
-returns-in_err-numbers c =
+pub returns-in_err-kind-clause-call : goal.returns-in_err-kind-clause-call
+returns-in_err-kind-clause-call c =
     let p = err_from_is_err_and c.from_residual.result c.from_residual.ensures.1 in
-    let e = read_values c.args.bytes.now c.find-end.result c.find-end.ensures.is c.in-Some.kind c.in-Some.ensures
-    c.count-tabs.result c.count-tabs.ensures (Err c.in_err-numbers.field-0.0) c.if-not-count_fits.ensures c.in_err-numbers.ensures.value in
-    record {
-      value = ap (on_ok call_of) (p.1 ∙ ap Err p.2) ∙ e;
-      within = IfOk-from_err c.from_residual.result _ c.from_residual.ensures.0;
-    }
+    ap (on_ok call_of) (p.1 ∙ ap Err p.2) ∙ read_unknown c.args.bytes.now c.find-end.result c.find-end.ensures.is c.in_err-kind.field-0.0 (sym c.in_err-kind.ensures)
 
-pub returns : goal.returns
-returns c =
-    let e = read_values c.args.bytes.now c.find-end.result c.find-end.ensures.is c.in-Some.kind c.in-Some.ensures
-    c.count-tabs.result c.count-tabs.ensures (Ok (listed c.in_ok-numbers.numbers)) c.if-not-count_fits.ensures c.in_ok-numbers.ensures.value in
-    record { value = ap Ok c.asked.ensures.value ∙ e; within = c.asked.ensures.within }
+pub returns-then-not-fits-clause-call : goal.returns-then-not-fits-clause-call
+returns-then-not-fits-clause-call c =
+    read_count c.args.bytes.now c.find-end.result c.find-end.ensures.is c.in_ok-kind.kind (sym c.in_ok-kind.ensures) c.count.result c.count.ensures c.if-not-fits.ensures
+
+pub read_numbers-requires : goal.read_numbers-requires
+read_numbers-requires c =
+    (read_numbers_may c.args.bytes.now c.find-end.result c.find-end.ensures.is c.in_ok-kind.kind (sym c.in_ok-kind.ensures) c.count.result c.count.ensures c.if-not-fits.ensures).1
+
+pub returns-in_err-numbers-clause-call : goal.returns-in_err-numbers-clause-call
+returns-in_err-numbers-clause-call c =
+    let p = err_from_is_err_and c.from_residual-in_err-numbers.result c.from_residual-in_err-numbers.ensures.1 in
+    ap (on_ok call_of) (p.1 ∙ ap Err p.2)
+    ∙ read_values c.args.bytes.now c.find-end.result c.find-end.ensures.is c.in_ok-kind.kind (sym c.in_ok-kind.ensures) c.count.result c.count.ensures
+    (Err c.in_err-numbers.field-0.0) c.if-not-fits.ensures c.in_err-numbers.ensures.value
+
+pub returns-clause-call : goal.returns-clause-call
+returns-clause-call c =
+    ap Ok c.asked.ensures.call
+    ∙ read_values c.args.bytes.now c.find-end.result c.find-end.ensures.is c.in_ok-kind.kind (sym c.in_ok-kind.ensures) c.count.result c.count.ensures
+    (Ok c.in_ok-numbers.numbers.items) c.if-not-fits.ensures c.in_ok-numbers.ensures.value
+
+pub returns-clause-kind : goal.returns-clause-kind
+returns-clause-kind c =
+    read_letter c.args.bytes.now c.find-end.result c.find-end.ensures.is c.in_ok-kind.kind (sym c.in_ok-kind.ensures) c.count.result c.count.ensures ∙ ap Some (sym c.asked.ensures.kind)

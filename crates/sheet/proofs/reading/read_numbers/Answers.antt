@@ -1,67 +1,60 @@
-use Rattle.std.proofs.Common.{◌≡◌, ◌+◌, [], ◌∷◌, ◌++◌, length, take, drop, Ok, Err, sym, refl, ap, ◌∙◌, append-nil, arith}
-use Rattle.std.proofs.lemmas.List.{length-set, length-drop, drop_all, take_more_set}
-use Rattle.std.proofs.lemmas.Result.{err_from_is_err_and, IfOk-from_err}
+use Rattle.std.proofs.Common.{◌+◌, length, Err, ap, ◌∙◌, arith, rules}
+use borrow.Author.Tests.{tests}
+use Rattle.std.proofs.lemmas.List.{length_push}
+use Rattle.std.proofs.lemmas.Result.{err_from_is_err_and}
 use Rattle.text.specs.Split.{parted}
-use Rattle.sheet.specs.Reading.{values_of, on_ok, listed}
 use Rattle.text.proofs.Splits.{length-parted}
-use Rattle.sheet.proofs.Fields.{on_ok_id, first_field, fields_on, fields_none, turn_stop, turn_more}
+use Rattle.sheet.specs.Reading.{on_ok}
+use Rattle.sheet.proofs.Fields.{fields_numbered, turn_is, end_is, values_first, on_ok_id, values_end, values_left, turn_within, turn_stop, turn_more}
 use Rattle.sheet.proofs.reading.read_numbers.Goals as goal
-use Rattle.sheet.proofs.reading.read_numbers.Goals.{then-end-line, else-end-line}
 
-pub loop-k-init : goal.loop-k-init
-loop-k-init c =
-    let f = first_field c.args.line.now (omega arith) (omega arith) in
-    (refl, λ h. f, on_ok_id _)
+pub loop-field-init : goal.loop-field-init
+loop-field-init c = record {
+  count = ap length c.empty-numbers.ensures.items;
+  values = ap (λ ns. values_left c.args.kind (parted 9 c.args.line.now) ns 0) c.empty-numbers.ensures.items ∙ on_ok_id _ ∙ values_first c.args.kind c.args.line.now (omega arith);
+}
 
-pub returns-in_err-items : goal.returns-in_err-items
-returns-in_err-items c =
-    let xs = c.args.line.now in
-    let k = c.loop-k.k in
-    let here = c.loop-k.invariant.1 c.loop-k-test.true in
+pub push-requires : goal.push-requires
+push-requires c =
+    let turn = turn_is c.args.line.now c.loop-field.yielded _ c.loop-field.yielded_by _ _ c.next.ensures.steps (c.in-Some.field, c.in-Some.bytes) c.in-Some.is
+    (fields_numbered _ c.args.line.now c.split.ensures.rest c.split.ensures.done c.split.ensures.closure c.enumerate.ensures.source c.enumerate.ensures.count
+    c.skip-field-items.ensures.source c.skip-field-items.ensures.count c.into_iter-field-iterator.ensures.into_iter_gives (λ x r q k. search (rules, tests))) in
+    let within = turn_within (parted 9 c.args.line.now) (length c.loop-field.yielded) (c.in-Some.field, c.in-Some.bytes.now) turn in
+    (omega arith, omega (arith, within, length-parted 9 c.args.line.now, c.loop-field.invariant.count))
+
+pub returns-in_err-value_at-clause-value : goal.returns-in_err-value_at-clause-value
+returns-in_err-value_at-clause-value c =
+    let turn = turn_is c.args.line.now c.loop-field.yielded _ c.loop-field.yielded_by _ _ c.next.ensures.steps (c.in-Some.field, c.in-Some.bytes) c.in-Some.is
+    (fields_numbered _ c.args.line.now c.split.ensures.rest c.split.ensures.done c.split.ensures.closure c.enumerate.ensures.source c.enumerate.ensures.count
+    c.skip-field-items.ensures.source c.skip-field-items.ensures.count c.into_iter-field-iterator.ensures.into_iter_gives (λ x r q k. search (rules, tests))) in
+    let fs = parted 9 c.args.line.now in
     let p = err_from_is_err_and c.from_residual.result c.from_residual.ensures.1 in
-    let e = turn_stop c.args.kind xs (parted 9 xs) (take k c.loop-k.items) (k + 1) c.loop-k.at c.find-end.result here.1 c.find-end.ensures.is c.in_err-items.field-0.0 c.in_err-items.ensures in
-    record {
-      value = ap (on_ok listed) (p.1 ∙ ap Err p.2) ∙ e ∙ c.loop-k.invariant.2;
-      len = IfOk-from_err c.from_residual.result _ c.from_residual.ensures.0;
-    }
+    ap (on_ok (λ numbers. numbers.items)) (p.1 ∙ ap Err p.2)
+    ∙ turn_stop fs (length c.loop-field.yielded) (c.in-Some.field, c.in-Some.bytes.now) turn c.args.kind c.loop-field.numbers.items c.in_err-value_at.field-0.0 c.in_err-value_at.ensures
+    ∙ c.loop-field.invariant.values
 
-pub loop-k-preserved : goal.loop-k-preserved
-loop-k-preserved c =
-    let xs = c.args.line.now in
-    let fs = parted 9 xs in
-    let k = c.loop-k.k in
-    let n = c.in_ok-items.field-0 in
-    let here = c.loop-k.invariant.1 c.loop-k-test.true in
-    let is = c.find-end.ensures.is in
-    let end = c.find-end.result in
-    let ns = take k c.loop-k.items in
-    let more = turn_more c.args.kind xs fs ns (k + 1) c.loop-k.at end here.1 is n c.in_ok-items.ensures in
-    let tk = take_more_set c.loop-k.items k n (omega arith) in (
-      length-set c.loop-k.items k n ∙ c.loop-k.invariant.0,
-      elim c.if-end-line.branch [
-        | then-end-line w ↦ λ h. (omega (arith, w.at-is), fields_on c.args.kind xs fs ns (k + 1) c.loop-k.at end here.1 is w.if-end-line.true ∙ ap (λ i. parted 9 (drop i xs)) (sym w.at-is))
-        | else-end-line w ↦ λ h. absurd (omega (arith, ap length (fields_none c.args.kind xs fs ns (k + 1) c.loop-k.at end here.1 is here.0 w.if-end-line.false), length-drop (k + 1 + 1) fs, length-parted 9 xs))
-      ],
-      ap (λ l. on_ok (λ ms. l ++ ms) (values_of c.args.kind (k + 1 + 1) c.if-end-line.at (drop (k + 1 + 1) fs))) tk
-          ∙ elim c.if-end-line.branch [
-            | then-end-line w ↦ ap (λ i. on_ok (λ ms. (ns ++ n ∷ []) ++ ms) (values_of c.args.kind (k + 1 + 1) i (drop (k + 1 + 1) fs))) w.at-is
-            | else-end-line w ↦
-                let none = fields_none c.args.kind xs fs ns (k + 1) c.loop-k.at end here.1 is here.0 w.if-end-line.false in
-                ap (λ l. on_ok (λ ms. (ns ++ n ∷ []) ++ ms) (values_of c.args.kind (k + 1 + 1) c.if-end-line.at l)) none
-                ∙ ap (λ l. on_ok (λ ms. (ns ++ n ∷ []) ++ ms) (values_of c.args.kind (k + 1 + 1) (end + 1) l)) (sym none)
-          ]
-          ∙ more ∙ c.loop-k.invariant.2,
-    )
+pub loop-field-preserved : goal.loop-field-preserved
+loop-field-preserved c =
+    let turn = turn_is c.args.line.now c.loop-field.yielded _ c.loop-field.yielded_by _ _ c.next.ensures.steps (c.in-Some.field, c.in-Some.bytes) c.in-Some.is
+    (fields_numbered _ c.args.line.now c.split.ensures.rest c.split.ensures.done c.split.ensures.closure c.enumerate.ensures.source c.enumerate.ensures.count
+    c.skip-field-items.ensures.source c.skip-field-items.ensures.count c.into_iter-field-iterator.ensures.into_iter_gives (λ x r q k. search (rules, tests))) in
+    let fs = parted 9 c.args.line.now in
+    let n = c.in_ok-value_at.field-0 in
+    let more = length_push c.loop-field.yielded (c.in-Some.field, c.in-Some.bytes) in
+    record {
+      count = omega (arith, more, ap length c.push.ensures.items, length_push c.loop-field.numbers.items n, c.loop-field.invariant.count);
+      values = ap (values_left c.args.kind fs c.push.new.self.items) more
+          ∙ ap (λ ns. values_left c.args.kind fs ns (length c.loop-field.yielded + 1)) c.push.ensures.items
+          ∙ turn_more fs (length c.loop-field.yielded) (c.in-Some.field, c.in-Some.bytes.now) turn c.args.kind c.loop-field.numbers.items n c.in_ok-value_at.ensures
+          ∙ c.loop-field.invariant.values;
+    }
 
 pub returns : goal.returns
 returns c =
-    let xs = c.args.line.now in
-    let fs = parted 9 xs in
-    let k = c.loop-k.k in
-    let same : c.args.tabs ≡ k = omega arith in
-    let none : drop (k + 1) fs ≡ [] = drop_all (k + 1) fs (omega (arith, length-parted 9 xs)) in
+    let seen = end_is c.args.line.now c.loop-field.yielded _ c.loop-field.yielded_by _ _ c.next.ensures.steps c.in-None.is
+    (fields_numbered _ c.args.line.now c.split.ensures.rest c.split.ensures.done c.split.ensures.closure c.enumerate.ensures.source c.enumerate.ensures.count
+    c.skip-field-items.ensures.source c.skip-field-items.ensures.count c.into_iter-field-iterator.ensures.into_iter_gives (λ x r q k. search (rules, tests))) in
     record {
-      value = ap Ok (ap (λ n. take n c.loop-k.items) same ∙ sym (append-nil _))
-          ∙ ap (λ l. on_ok (λ ns. take k c.loop-k.items ++ ns) (values_of c.args.kind (k + 1) c.loop-k.at l)) (sym none) ∙ c.loop-k.invariant.2;
-      len = refl;
+      value = values_end c.args.kind c.args.line.now c.loop-field.numbers.items (length c.loop-field.yielded) seen ∙ c.loop-field.invariant.values;
+      len = c.loop-field.invariant.count ∙ seen;
     }
