@@ -1,5 +1,5 @@
 -- Laws of the fields of a line: how the library's `split` gives them, their offsets and values, and steps.
-use Rattle.std.proofs.Common.{◌≡◌, ℕ, zero, suc, ◌+◌, ◌-◌, ◌<◌, ◌≤◌, min, Bool, true, false, cond, eqb, List, [], ◌∷◌, ◌++◌, length, get_or, take, drop, Some, None, Ok, Err, Option, Result, sym, refl, ap, ◌∙◌, subst, append_assoc, append-nil, add-one, arith, map}
+use Rattle.std.proofs.Common.{◌≡◌, ℕ, zero, suc, ◌+◌, ◌-◌, ◌<◌, ◌≤◌, min, Bool, true, false, cond, eqb, List, [], ◌∷◌, ◌++◌, length, get_or, take, drop, Some, None, Ok, Err, Option, Result, sym, refl, ap, ◌∙◌, append_assoc, append-nil, add-one, arith, map}
 use Rattle.std.proofs.lemmas.Iterator.{YieldsList, YieldsList-from_take, YieldsList-from_map, maps}
 use Rattle.std.proofs.lemmas.Iterator.Adapters.{YieldsList-from_skip}
 use Rattle.std.proofs.lemmas.Iterator.Consumers.{YieldsList-at, YieldsList-from_enumerate, YieldsList-turn, YieldsList-end}
@@ -10,34 +10,21 @@ use Rattle.std.proofs.lemmas.List.Sums.{sum_by-cons, sum_by-take-le}
 use Rattle.std.specs.Fn.{Called, CalledAt}
 use Rattle.std.specs.Iterator.{Yields}
 use Rattle.std.specs.Iterator.Adapters.{map_source, map_callee, take_source, take_count, take_steps, skip_source, skip_count, skip_steps, enumerate_source, enumerate_count, enumerate_steps}
-use Rattle.std.specs.List.{sum_by, enumerate_from, slice_split, onto_first}
+use Rattle.std.specs.List.{sum_by, enumerate_from, onto_first}
 use Rattle.std.specs.Slice.Iter as slice
 use denote.Param.Members.{Mut}
 use denote.Ref.{Bor}
-use Rattle.text.specs.Split.{before, on_first, parted, tally}
+use Rattle.text.specs.Split.{before, parted, tally}
 use Rattle.text.proofs.Splits.{parted_first, parted_some, length-parted}
 use Rattle.sheet.specs.declared.fault.LineFault.{LineFault}
 use Rattle.sheet.specs.declared.kind.Kind.{Kind}
 use Rattle.sheet.specs.Reading.{offset_of, on_ok, spotted, value_of, value_next, values_of, steps_of}
 
--- the library's pieces of a slice are those that b parts
-onto_same : (x : ℕ) (ps : List (List ℕ)) → onto_first x ps ≡ on_first x ps
-onto_same x [] = refl
-onto_same x (p ∷ ps) = refl
-
-split_parted : (b : ℕ) (xs : List ℕ) → slice_split (λ x. eqb x b) xs ≡ parted b xs
-split_parted b [] = refl
-split_parted b (x ∷ xs) =
-    elim (eqb x b) as (λ t. cond t ([] ∷ slice_split (λ y. eqb y b) xs) (onto_first x (slice_split (λ y. eqb y b) xs)) ≡ cond t ([] ∷ parted b xs) (on_first x (parted b xs))) [
-      | true ↦ ap (λ ps. [] ∷ ps) (split_parted b xs)
-      | false ↦ onto_same x (slice_split (λ y. eqb y b) xs) ∙ ap (on_first x) (split_parted b xs)
-    ]
-
 -- a slice that is cut at each tab gives the fields of its line
 pub fields_given : {F : Type 0} {s : _} (g : Mut F (Bor ℕ × Unit {0}) Bool) {f : F} (xs : List ℕ) → slice.split_rest s ≡ xs → slice.split_done s ≡ false → slice.split_callee s ≡ f
     → ((x : ℕ) (b : Bool) (q : F) → CalledAt g f x b q → (q ≡ f) × (b ≡ eqb x 9)) → YieldsList (slice.split_steps g) (λ x. x.now) s (parted 9 xs)
 fields_given g xs rest done callee calls =
-    subst (YieldsList (slice.split_steps g) (λ x. x.now) _) (split_parted 9 xs) (YieldsList-from_slice_split g (λ x. eqb x 9) xs rest done callee calls)
+    YieldsList-from_slice_split g (λ x. eqb x 9) xs rest done callee calls
 
 -- the fields behind the kind, with their numbers
 pub fields_numbered : {F : Type 0} {s : _} (g : Mut F (Bor ℕ × Unit {0}) Bool) {f : F} (xs : List ℕ) → slice.split_rest s ≡ xs → slice.split_done s ≡ false → slice.split_callee s ≡ f
@@ -59,17 +46,17 @@ pub wides_given : {F G : Type 0} {s : _} (g : Mut F (Bor ℕ × Unit {0}) Bool) 
 wides_given g xs rest done callee k source count h mapped with calls widths =
     YieldsList-from_map h wide (YieldsList-at mapped (YieldsList-from_take k (YieldsList-at source (fields_given g xs rest done callee calls)) count)) with widths
 
-wide-on_first : (x : ℕ) (ps : List (List ℕ)) → 0 < length ps → sum_by wide (on_first x ps) ≡ sum_by wide ps + 1
-wide-on_first x [] h = absurd (omega arith)
-wide-on_first x (p ∷ ps) h = omega (arith, sum_by-cons wide (x ∷ p) ps, sum_by-cons wide p ps)
+wide-onto_first : (x : ℕ) (ps : List (List ℕ)) → 0 < length ps → sum_by wide (onto_first x ps) ≡ sum_by wide ps + 1
+wide-onto_first x [] h = absurd (omega arith)
+wide-onto_first x (p ∷ ps) h = omega (arith, sum_by-cons wide (x ∷ p) ps, sum_by-cons wide p ps)
 
 -- over all fields it is one more than the bytes of the line
 pub wide_all : (b : ℕ) (xs : List ℕ) → sum_by wide (parted b xs) ≡ length xs + 1
 wide_all b [] = refl
 wide_all b (x ∷ xs) =
-    elim (eqb x b) as (λ t. sum_by wide (cond t ([] ∷ parted b xs) (on_first x (parted b xs))) ≡ suc (length xs) + 1) [
+    elim (eqb x b) as (λ t. sum_by wide (cond t ([] ∷ parted b xs) (onto_first x (parted b xs))) ≡ suc (length xs) + 1) [
       | true ↦ omega (arith, sum_by-cons wide [] (parted b xs), wide_all b xs)
-      | false ↦ omega (arith, wide-on_first x (parted b xs) (parted_some b xs), wide_all b xs)
+      | false ↦ omega (arith, wide-onto_first x (parted b xs) (parted_some b xs), wide_all b xs)
     ]
 
 -- so an offset is the sum over the fields before it, and past the last field that of the line's end

@@ -3,7 +3,7 @@ use Rattle.std.proofs.Common.{◌≡◌, ℕ, ◌+◌, ◌≤◌, true, false, c
 use Rattle.std.proofs.lemmas.Bool.Decides.{nat_tests}
 use Rattle.std.specs.Option.{ok_or}
 use Rattle.text.specs.Split.{before, parted, tally}
-use Rattle.text.proofs.Splits.{parted_first, before_take, length-parted}
+use Rattle.text.proofs.Splits.{parted_first, before_take, before_cons, length-parted}
 use Rattle.sheet.specs.declared.fault.LineFault.{LineFault}
 use Rattle.sheet.specs.declared.fault.LineFault.TheVariants.{KindUnknown, FieldCount}
 use Rattle.sheet.specs.declared.kind.Kind.{Kind}
@@ -25,7 +25,8 @@ letter_first b (c ∷ f) k h = cc
 pub line_letter : (bs : List ℕ) (k : Kind) → kind_of (before 9 bs) ≡ Some k → letter (get_or bs 0 0) ≡ Some k
 line_letter [] k = λ h. cc
 line_letter (b ∷ bs) k =
-    elim (eqb b 9) as (λ t. kind_of (cond t [] (b ∷ before 9 bs)) ≡ Some k → letter b ≡ Some k) [ true ↦ λ h. cc | false ↦ λ h. letter_first b (before 9 bs) k h ]
+    rw (before_cons 9 b bs)
+    (elim (eqb b 9) as (λ t. kind_of (cond t [] (b ∷ before 9 bs)) ≡ Some k → letter b ≡ Some k) [ true ↦ λ h. cc | false ↦ λ h. letter_first b (before 9 bs) k h ])
 
 -- a line that may be read has 2 to 17 fields
 pub fields_few : (k : Kind) (n : ℕ) → true ≡ count_fits k n → (2 ≤ n) × (n ≤ 17)

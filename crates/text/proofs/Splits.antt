@@ -69,7 +69,7 @@ before_less b xs h =
     absurd (omega (arith, ap length (parted_last b xs e), length-parted b xs)))
     (cases_lt (length (before b xs)) (length xs))
 
-before_cons : (b x : ℕ) (xs : List ℕ) → before b (x ∷ xs) ≡ cond (eqb x b) [] (x ∷ before b xs)
+pub before_cons : (b x : ℕ) (xs : List ℕ) → before b (x ∷ xs) ≡ cond (eqb x b) [] (x ∷ before b xs)
 before_cons b x xs =
     take_while-cons (λ y. not (eqb y b)) x xs ∙ elim (eqb x b) as (λ t. cond (not t) (x ∷ before b xs) [] ≡ cond t [] (x ∷ before b xs)) [ true ↦ refl | false ↦ refl ]
 
