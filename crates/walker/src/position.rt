@@ -6,10 +6,12 @@ ghost use Rattle.plans.specs.Meanings.{hours_of};
 ghost use Rattle.walker.specs.Moves.{FleetOk, RecordOk, Sane, BegunWithin, CanMove, begin_in, advanced, row_in, steps_left};
 ghost use Rattle.walker.specs.Bounds.{lengths_left, finish_in};
 
+use crate::setting::Setting;
 use goals::{Goal, score_of};
 use hall::vehicle::Vehicle;
 use hours::{Hours, least_begin};
 use plans::row::Row;
+use short::Short;
 
 // For each vehicle the begun steps and the minute from which it is free, for each station the minute from which it is
 // free, and the clock.
@@ -23,7 +25,8 @@ pub struct Position {
 
 // The lengths of the vehicle's steps from `k` on.
 fn lengths_left(vehicle: &Vehicle, k: usize) -> u32
-    requires { (RecordOk vehicle.now) × (k ≤ vehicle.now.len) }
+    requires record { RecordOk vehicle.now }
+    requires within { k ≤ vehicle.now.len }
     ensures sum { result ≡ lengths_left vehicle.now k }
     ensures small { result ≤ 11520 }
 {
@@ -36,18 +39,19 @@ fn lengths_left(vehicle: &Vehicle, k: usize) -> u32
 
 impl Position {
     // The begin of the vehicle's next step, if it has one and the hours permit it.
-    pub fn next_begin<H: Hours>(&self, hours: &H, fleet: &[Vehicle], v: usize) -> Option<u32>
-        requires { (v < length fleet.now) × (FleetOk fleet.now) }
-        ensures value { result ≡ begin_in (hours_of (H.Hours.permits hours.now)).earliest fleet.now self.now v }
+    pub fn next_begin<H: Hours, G>(&self, by: &Setting<H, G>, v: usize) -> Option<u32>
+        requires { v < length by.now.fleet.now }
+        ensures value { result ≡ begin_in (hours_of (H.Hours.permits by.now.hours.now)).earliest by.now.fleet.now self.now v }
     {
+        let vehicle = by.fleet[v];
         let k = self.begun[v] as usize;
-        if k >= fleet[v].len {
+        if k >= vehicle.len {
             return None;
         }
-        let step = fleet[v].steps[k];
+        let step = vehicle.steps[k];
         let free = self.stations[step.station as usize];
         let from = self.clock.max(self.vehicles[v]).max(free);
-        least_begin(hours, step.station, from, step.length)
+        least_begin(by.hours, step.station, from, step.length)
     }
 
     // Begins the vehicle's next step.
@@ -82,7 +86,9 @@ impl Position {
 
     // The least minute at which the vehicle can finish.
     fn finish_of(&self, fleet: &[Vehicle], v: usize) -> u32
-        requires { (v < length fleet.now) × ((FleetOk fleet.now) × (Sane self.now)) }
+        requires known { v < length fleet.now }
+        requires fleet { FleetOk fleet.now }
+        requires sane { Sane self.now }
         ensures value { result ≡ finish_in fleet.now self.now v }
         ensures small { result ≤ 2020000 }
     {
@@ -96,20 +102,21 @@ impl Position {
     }
 
     // The goal's score of all least finishes.
-    pub fn bound<G: Goal>(&self, goal: &G, fleet: &[Vehicle]) -> G::Score
-        requires { (FleetOk fleet.now) × (Sane self.now) }
-        ensures value { result ≡ scored (G.Goal.adding goal.now) (G.Goal.starting goal.now) (map (finish_in fleet.now self.now) (range_with_len 0 (length fleet.now))) }
+    pub fn bound<H, G: Goal>(&self, by: &Setting<H, G>) -> G::Score
+        requires { Sane self.now }
+        ensures value { result ≡ scored (G.Goal.adding by.now.goal.now) (G.Goal.starting by.now.goal.now) (map (finish_in by.now.fleet.now self.now) (range_with_len 0 (length by.now.fleet.now))) }
     {
-        let mut finishes = [0; 24];
-        for v in 0..fleet.len() {
-            finishes[v] = self.finish_of(fleet, v);
+        let mut finishes: Short<u32, 24> = Short::empty(0);
+        for v in 0..by.fleet.len() {
+            finishes.push(self.finish_of(by.fleet, v));
         }
-        score_of(goal, &finishes[..fleet.len()])
+        score_of(by.goal, finishes.as_slice())
     }
 
     // The steps that the vehicles have left.
     pub fn steps_left(&self, fleet: &[Vehicle]) -> usize
-        requires { (FleetOk fleet.now) × (BegunWithin fleet.now self.now) }
+        requires fleet { FleetOk fleet.now }
+        requires begun { BegunWithin fleet.now self.now }
         ensures value { result ≡ steps_left fleet.now self.now (length fleet.now) }
     {
         let mut sum: usize = 0;

@@ -1,10 +1,11 @@
 // The way from the root to the position that is visited next.
 ghost use Rattle.std.specs.Prelude.{◌≡◌, ◌<◌};
 ghost use Rattle.plans.specs.Meanings.{hours_of};
-ghost use Rattle.walker.specs.Moves.{FleetOk, CanMove};
+ghost use Rattle.walker.specs.Moves.{CanMove};
 ghost use Rattle.walker.specs.Trail.{Found, TrailOk, pushed, below, due_of, top_of};
 
 use crate::position::Position;
+use crate::setting::Setting;
 use hall::vehicle::Vehicle;
 use hours::Hours;
 use plans::row::Row;
@@ -35,12 +36,11 @@ pub struct Trail {
 
 impl Frame {
     // The first move of a vehicle from `next` on.
-    fn next_move<H: Hours>(&self, hours: &H, fleet: &[Vehicle]) -> Option<Move>
-        requires { FleetOk fleet.now }
-        ensures found { Found (hours_of (H.Hours.permits hours.now)).earliest fleet.now self.now result }
+    fn next_move<H: Hours, G>(&self, by: &Setting<H, G>) -> Option<Move>
+        ensures found { Found (hours_of (H.Hours.permits by.now.hours.now)).earliest by.now.fleet.now self.now result }
     {
-        for v in self.next..fleet.len() {
-            if let Some(begin) = self.at.next_begin(hours, fleet, v) {
+        for v in self.next..by.fleet.len() {
+            if let Some(begin) = self.at.next_begin(by, v) {
                 return Some(Move { vehicle: v, begin });
             }
         }
@@ -64,15 +64,15 @@ impl Trail {
     }
 
     // Goes back until the next due position is on top; without one the trail is empty.
-    pub fn settle<H: Hours>(&mut self, hours: &H, fleet: &[Vehicle])
-        requires { (FleetOk fleet.now) × (TrailOk fleet.now self.old) }
-        ensures ok { TrailOk fleet.now self.new }
+    pub fn settle<H: Hours, G>(&mut self, by: &Setting<H, G>)
+        requires { TrailOk by.now.fleet.now self.old }
+        ensures ok { TrailOk by.now.fleet.now self.new }
         ensures steps { self.new.steps ≡ self.old.steps }
-        ensures due { due_of (hours_of (H.Hours.permits hours.now)).earliest fleet.now self.new ≡ below (hours_of (H.Hours.permits hours.now)).earliest fleet.now self.old.frames self.old.path self.old.depth }
+        ensures due { due_of (hours_of (H.Hours.permits by.now.hours.now)).earliest by.now.fleet.now self.new ≡ below (hours_of (H.Hours.permits by.now.hours.now)).earliest by.now.fleet.now self.old.frames self.old.path self.old.depth }
     {
         while self.depth > 0 {
-            if let Some(m) = self.frames[self.depth - 1].next_move(hours, fleet) {
-                self.push(fleet, m);
+            if let Some(m) = self.frames[self.depth - 1].next_move(by) {
+                self.push(by.fleet, m);
                 return;
             }
             self.depth -= 1;

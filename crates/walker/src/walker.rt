@@ -1,10 +1,10 @@
 // The walk as far as it has come.
 ghost use Rattle.std.specs.Prelude.{◌≡◌, ◌+◌, ◌^◌, ◌<◌, ◌≤◌, ◌++◌, length, take, drop};
 ghost use Rattle.plans.specs.Meanings.{hours_of, goal_of};
-ghost use Rattle.walker.specs.Moves.{FleetOk};
 ghost use Rattle.walker.specs.Visits.{beats, WalkerOk, held_in, stage_of, stage_left, visit_once, visits_of};
 ghost use Rattle.walker.specs.Answers.{outcome_in, written_by};
 
+use crate::setting::Setting;
 use crate::trail::Trail;
 use goals::Goal;
 use hall::vehicle::Vehicle;
@@ -33,17 +33,19 @@ fn is_beaten<G: Goal>(goal: &G, best: Option<G::Score>, bound: G::Score) -> bool
 }
 
 // Drops the top position, holds its rows as the best plan, or makes its children due.
-fn decide<H: Hours, G: Goal>(walker: &mut Walker<G::Score>, hours: &H, goal: &G, fleet: &[Vehicle])
-    requires { (FleetOk fleet.now) × ((WalkerOk fleet.now walker.old) × ((0 < walker.old.trail.depth) × (walker.old.visits + 1 < 2 ^ 64))) }
-    ensures ok { WalkerOk fleet.now walker.new }
+fn decide<H: Hours, G: Goal>(walker: &mut Walker<G::Score>, by: &Setting<H, G>)
+    requires ok { WalkerOk by.now.fleet.now walker.old }
+    requires some { 0 < walker.old.trail.depth }
+    requires room { walker.old.visits + 1 < 2 ^ 64 }
+    ensures ok { WalkerOk by.now.fleet.now walker.new }
     ensures steps { walker.new.trail.steps ≡ walker.old.trail.steps }
     ensures count { walker.new.visits ≡ walker.old.visits + 1 }
-    ensures step { stage_left (hours_of (H.Hours.permits hours.now)) fleet.now walker.new ≡ visit_once (hours_of (H.Hours.permits hours.now)) (goal_of (G.Goal.starting goal.now) (G.Goal.adding goal.now) (G.Goal.no_worse goal.now)) fleet.now (stage_of (hours_of (H.Hours.permits hours.now)) fleet.now walker.old) }
+    ensures step { stage_left (hours_of (H.Hours.permits by.now.hours.now)) by.now.fleet.now walker.new ≡ visit_once (hours_of (H.Hours.permits by.now.hours.now)) (goal_of (G.Goal.starting by.now.goal.now) (G.Goal.adding by.now.goal.now) (G.Goal.no_worse by.now.goal.now)) by.now.fleet.now (stage_of (hours_of (H.Hours.permits by.now.hours.now)) by.now.fleet.now walker.old) }
 {
     let d = walker.trail.depth - 1;
-    let bound = walker.trail.frames[d].at.bound(goal, fleet);
+    let bound = walker.trail.frames[d].at.bound(by);
     walker.visits += 1;
-    if is_beaten(goal, walker.best, bound) {
+    if is_beaten(by.goal, walker.best, bound) {
         walker.trail.depth = d;
         return;
     }
@@ -59,36 +61,37 @@ fn decide<H: Hours, G: Goal>(walker: &mut Walker<G::Score>, hours: &H, goal: &G,
 }
 
 // Visits the top position; afterwards the next due position is on top.
-fn visit<H: Hours, G: Goal>(walker: &mut Walker<G::Score>, hours: &H, goal: &G, fleet: &[Vehicle])
-    requires { (FleetOk fleet.now) × ((WalkerOk fleet.now walker.old) × ((0 < walker.old.trail.depth) × (walker.old.visits + 1 < 2 ^ 64))) }
-    ensures ok { WalkerOk fleet.now walker.new }
+fn visit<H: Hours, G: Goal>(walker: &mut Walker<G::Score>, by: &Setting<H, G>)
+    requires ok { WalkerOk by.now.fleet.now walker.old }
+    requires some { 0 < walker.old.trail.depth }
+    requires room { walker.old.visits + 1 < 2 ^ 64 }
+    ensures ok { WalkerOk by.now.fleet.now walker.new }
     ensures steps { walker.new.trail.steps ≡ walker.old.trail.steps }
     ensures count { walker.new.visits ≡ walker.old.visits + 1 }
-    ensures step { stage_of (hours_of (H.Hours.permits hours.now)) fleet.now walker.new ≡ visit_once (hours_of (H.Hours.permits hours.now)) (goal_of (G.Goal.starting goal.now) (G.Goal.adding goal.now) (G.Goal.no_worse goal.now)) fleet.now (stage_of (hours_of (H.Hours.permits hours.now)) fleet.now walker.old) }
+    ensures step { stage_of (hours_of (H.Hours.permits by.now.hours.now)) by.now.fleet.now walker.new ≡ visit_once (hours_of (H.Hours.permits by.now.hours.now)) (goal_of (G.Goal.starting by.now.goal.now) (G.Goal.adding by.now.goal.now) (G.Goal.no_worse by.now.goal.now)) by.now.fleet.now (stage_of (hours_of (H.Hours.permits by.now.hours.now)) by.now.fleet.now walker.old) }
 {
-    decide(walker, hours, goal, fleet);
-    walker.trail.settle(hours, fleet);
+    decide(walker, by);
+    walker.trail.settle(by);
 }
 
 // At most `budget` visits more.
 pub fn go_on<H: Hours, G: Goal>(
     walker: &mut Walker<G::Score>,
-    hours: &H,
-    goal: &G,
-    fleet: &[Vehicle],
+    by: &Setting<H, G>,
     budget: u64,
 )
-    requires { (FleetOk fleet.now) × ((WalkerOk fleet.now walker.old) × (walker.old.visits + budget < 2 ^ 64)) }
-    ensures ok { WalkerOk fleet.now walker.new }
+    requires ok { WalkerOk by.now.fleet.now walker.old }
+    requires room { walker.old.visits + budget < 2 ^ 64 }
+    ensures ok { WalkerOk by.now.fleet.now walker.new }
     ensures steps { walker.new.trail.steps ≡ walker.old.trail.steps }
     ensures count { walker.new.visits ≤ walker.old.visits + budget }
-    ensures walk { stage_of (hours_of (H.Hours.permits hours.now)) fleet.now walker.new ≡ visits_of (hours_of (H.Hours.permits hours.now)) (goal_of (G.Goal.starting goal.now) (G.Goal.adding goal.now) (G.Goal.no_worse goal.now)) fleet.now budget (stage_of (hours_of (H.Hours.permits hours.now)) fleet.now walker.old) }
+    ensures walk { stage_of (hours_of (H.Hours.permits by.now.hours.now)) by.now.fleet.now walker.new ≡ visits_of (hours_of (H.Hours.permits by.now.hours.now)) (goal_of (G.Goal.starting by.now.goal.now) (G.Goal.adding by.now.goal.now) (G.Goal.no_worse by.now.goal.now)) by.now.fleet.now budget (stage_of (hours_of (H.Hours.permits by.now.hours.now)) by.now.fleet.now walker.old) }
 {
     for i in 0..budget {
         if walker.trail.depth == 0 {
             return;
         }
-        visit(walker, hours, goal, fleet);
+        visit(walker, by);
     }
 }
 

@@ -10,12 +10,12 @@ push-requires g c =
     let found = c.in-Some.ensures.found in
     let ok = c.loop-self.invariant.0 in
     let some = c.loop-self-test.true in
-    (some, (room c.args.fleet.now c.loop-self.self c.in-Some.m ok some found.0, found.0))
+    (some, (room c.args.by.now.fleet.now c.loop-self.self c.in-Some.m ok some found.0, found.0))
 
 pub returns-in-Some : goal.returns-in-Some
 returns-in-Some g c =
-    let E = (hours_of (g.H.Hours.permits c.args.hours.now)).earliest in
-    let J = c.args.fleet.now in
+    let E = (hours_of (g.H.Hours.permits c.args.by.now.hours.now)).earliest in
+    let J = c.args.by.now.fleet.now in
     let s = c.loop-self.self in
     let m = c.in-Some.m in
     let found = c.in-Some.ensures.found in
@@ -30,8 +30,8 @@ returns-in-Some g c =
 
 pub loop-self-preserved : goal.loop-self-preserved
 loop-self-preserved g c =
-    let E = (hours_of (g.H.Hours.permits c.args.hours.now)).earliest in
-    let J = c.args.fleet.now in
+    let E = (hours_of (g.H.Hours.permits c.args.by.now.hours.now)).earliest in
+    let J = c.args.by.now.fleet.now in
     let s = c.loop-self.self in
     let some = c.loop-self-test.true in (
       popped_ok J s (s.depth - 1) (omega arith) c.loop-self.invariant.0,
