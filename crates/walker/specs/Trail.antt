@@ -1,5 +1,5 @@
 -- Positions due, children, and what the trail of a search holds due.
-use Rattle.std.specs.Prelude.{◌≡◌, ℕ, zero, suc, ◌+◌, ◌-◌, ◌<◌, ◌≤◌, List, [], ◌∷◌, ◌++◌, length, take, set, Some, None, Option, slice_index_or, slice_set}
+use Rattle.std.specs.Prelude.{◌≡◌, ℕ, zero, suc, ◌+◌, ◌-◌, ◌<◌, ◌≤◌, List, [], ◌∷◌, ◌++◌, length, take, Some, None, Option, slice_index_or, slice_set}
 use Rattle.hall.specs.declared.vehicle.Vehicle.{Vehicle}
 use Rattle.plans.specs.declared.row.Row.{Row}
 use Rattle.walker.specs.declared.position.Position.{Position}
@@ -62,7 +62,7 @@ due_of E J s = due_upto E J s.frames s.path s.depth
 -- the trail after a move from its top frame
 abbrev pub pushed : List Vehicle → Trail → Move → Trail
 pushed J s m = record {
-  frames = set (slice_set s.frames (s.depth - 1) (record { at = (top_of s).at; next = m.vehicle + 1 }))
+  frames = slice_set (slice_set s.frames (s.depth - 1) (record { at = (top_of s).at; next = m.vehicle + 1 }))
       s.depth (record { at = advanced J (top_of s).at m.vehicle m.begin; next = 0 });
   path = slice_set s.path (s.depth - 1) (row_in J (top_of s).at m.vehicle m.begin);
   depth = s.depth + 1;

@@ -1,5 +1,5 @@
 -- One visit, k visits, and the state of the walk that a walker stands for.
-use Rattle.std.specs.Prelude.{◌≡◌, ℕ, zero, suc, ◌+◌, ◌≤◌, Bool, false, cond, List, [], ◌∷◌, ◌++◌, length, take, Some, None, Option, ◌==◌}
+use Rattle.std.specs.Prelude.{◌≡◌, ℕ, zero, suc, ◌+◌, ◌≤◌, Bool, false, if◌then◌else◌, List, [], ◌∷◌, ◌++◌, length, take, Some, None, Option, ◌==◌}
 use Rattle.hall.specs.declared.vehicle.Vehicle.{Vehicle}
 use Rattle.plans.specs.declared.row.Row.{Row}
 use Rattle.plans.specs.Meanings.{Hours, Goal}
@@ -37,11 +37,9 @@ beats no_worse (Some b) s = no_worse b s
 
 abbrev pub visit_top : {S : Type 0} → Hours → Goal S → List Vehicle → Due → List Due → Option (Held S) → ℕ → Stage S
 visit_top H G J d ds h n =
-    cond (beats G.no_worse (score_held h) (bound_in G J d.at))
-    (stage ds h (n + 1))
-    (cond (steps_left J d.at (length J) == 0)
-    (stage ds (Some (record { score = bound_in G J d.at; rows = d.rows })) (n + 1))
-    (stage (children_from H.earliest J d.at d.rows 0 ++ ds) h (n + 1)))
+    if beats G.no_worse (score_held h) (bound_in G J d.at) then stage ds h (n + 1)
+    else (if steps_left J d.at (length J) == 0 then stage ds (Some (record { score = bound_in G J d.at; rows = d.rows })) (n + 1)
+    else stage (children_from H.earliest J d.at d.rows 0 ++ ds) h (n + 1))
 
 abbrev pub visit_due : {S : Type 0} → Hours → Goal S → List Vehicle → List Due → Option (Held S) → ℕ → Stage S
 visit_due H G J [] h n = stage [] h n
