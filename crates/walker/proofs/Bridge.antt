@@ -14,7 +14,8 @@ use Rattle.walker.specs.declared.position.Position.{Position}
 use Rattle.walker.specs.Moves.{Query, next_in, begin_in, advanced, FleetOk}
 use Rattle.walker.specs.Bounds.{bound_in}
 use Rattle.walker.specs.Trail.{Due, child_by, children, children_from}
-use Rattle.walker.specs.Visits.{Held, Stage, stage, beats, score_held, visit_top, visit_due, visit_once, visits_of}
+use Rattle.walk.specs.Held.{beats}
+use Rattle.walker.specs.Visits.{Held, Stage, stage, score_held, visit_top, visit_due, visit_once, visits_of}
 use Rattle.walker.specs.View.{view_due, Fits, Tells}
 use Rattle.walker.specs.Standing.{held_at, Sees}
 use Rattle.walker.proofs.Views.{all_is, bound_is, leaf_is}
