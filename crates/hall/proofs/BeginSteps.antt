@@ -6,10 +6,10 @@ use Rattle.hall.specs.declared.step.Progress.TheVariants.{Running}
 use Rattle.hall.specs.declared.step.StepRecord.{StepRecord}
 use Rattle.hall.specs.Job.{Place, waits, runs, beginning, station, Config, booking_of, jobs_of, place_of, clock_of, config_of, Begins}
 use Rattle.hall.specs.Lasting.{Lasting}
-use Rattle.hall.specs.Log.{Log, vehicle_at, step_at, blank, reached, marked, begun, idle, running, taken, occupies, begin_of}
+use Rattle.hall.specs.Log.{Log, vehicle_at, step_at, blank, reached, marked, begun, idle, running, taken, occupies, begin_of, steps_with}
 use Rattle.hall.specs.Rules.{begin_answer}
 use Rattle.hall.proofs.Begins.{MayBegin, begin_ok}
-use Rattle.hall.proofs.Configurations.{booked_step, moves, moved_to, by_vehicle}
+use Rattle.hall.proofs.Configurations.{booked_step, moves, by_vehicle}
 use Rattle.hall.proofs.Keeping.{lasts_begin, begin_waits, begin_before, begin_after}
 use Rattle.hall.proofs.Leading.{leading_all}
 use Rattle.hall.proofs.Stages.{Between, Within, begun_within, between_place, within_place, within_last, place_waits, running_within}
@@ -25,29 +25,26 @@ module _ (l : Log) (v n : ℕ) (k : Lasting l) (m : MayBegin l v n) where
         (cases_eq b n);
   }
 
-  now_runs : Within (set (vehicle_at l v) n (reached (step_at l v n) (Running l.minute))) n l.minute
+  now_runs : Within (steps_with (vehicle_at l v) n (Running l.minute)) n l.minute
   now_runs = begun_within (vehicle_at l v) n l.minute m.left between
 
   from : (config_of l).state v ≡ waits n
   from = between_place (vehicle_at l v) n between ∙ cond-true (ltb n (length (vehicle_at l v))) _ _ (lt-ltb _ _ m.left)
 
-  to : place_of (set (vehicle_at l v) n (reached (step_at l v n) (Running l.minute))) ≡ runs n
+  to : place_of (steps_with (vehicle_at l v) n (Running l.minute)) ≡ runs n
   to = within_place _ n l.minute now_runs
 
-  clock : clock_of l.minute (set (vehicle_at l v) n (reached (step_at l v n) (Running l.minute))) ≡ 0
+  clock : clock_of l.minute (steps_with (vehicle_at l v) n (Running l.minute)) ≡ 0
   clock = omega (arith, within_last _ n l.minute now_runs)
 
   in_job : n < length (jobs_of l v)
   in_job = omega (arith, m.left, length-map (vehicle_at l v) booking_of)
 
   pub begins : Begins l v n (config_of (marked l v n (Running l.minute)))
-  begins = record {
-    step = moves l v n (Running l.minute) m.known k (lasts_begin l v n k m) (beginning n)
-        (record { step = n; within = in_job; which = inl refl }) from refl to clock;
-    waited = from;
-    started = moved_to l v n (Running l.minute) m.known k (lasts_begin l v n k m) (beginning n)
-        (record { step = n; within = in_job; which = inl refl }) from refl to clock;
-  }
+  begins =
+      let s = moves l v n (Running l.minute) m.known k (lasts_begin l v n k m) (beginning n)
+      (record { step = n; within = in_job; which = inl refl }) from refl to clock in
+      record { step = s.0; waited = from; started = s.1 }
 
 -- a station on which no step runs is free
 free_of_row : (s : ℕ) (rs : List StepRecord)
@@ -88,5 +85,4 @@ only_begins l k v n z b =
     ne (x.free u v (step_at l v n).station
     (ap (station (jobs_of l u)) at ∙ (ap (λ s. Some s.station) (booked_step (vehicle_at l u) i) ∙ ap Some e)) uses) in
     let free : taken (step_at l v n).station l.vehicles ≡ false = free_of_all (step_at l v n).station l.vehicles clash in
-    ap Ok (sym w.1) ∙ begin_ok l v known w.0 (omega (arith, w.1, w.2))
-    (subst (λ q. taken (step_at l v q).station l.vehicles ≡ false) (sym w.1) free)
+    begin_ok l v n (record { known = known; none_runs = w.0; next = sym w.1; left = w.2; free = free })

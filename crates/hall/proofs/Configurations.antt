@@ -10,7 +10,7 @@ use Rattle.hall.specs.Automaton.{Transition, Discrete}
 use Rattle.hall.specs.Composition.{put, Free, alone}
 use Rattle.hall.specs.Job.{Place, waits, runs, final, JobHas, step_of, station, hall_automaton, Config, booking_of, jobs_of, place_of, clock_of, config_of}
 use Rattle.hall.specs.Lasting.{Lasting}
-use Rattle.hall.specs.Log.{Log, vehicle_at, step_at, blank, reached, marked, idle, running}
+use Rattle.hall.specs.Log.{Log, vehicle_at, step_at, blank, reached, marked, idle, running, steps_with}
 use Rattle.hall.proofs.Keeping.{idle_running}
 use Rattle.hall.proofs.Leading.{leading_at}
 use Rattle.hall.proofs.Spots.{row_of, other_row}
@@ -25,7 +25,7 @@ put_there f a x b ne = cond-false (eqb b a) x (f b) (ne_eqb _ _ ne)
 
 -- what is read of each vehicle changes where its step does
 pub read_marked : {X : Type 0} (f : List StepRecord → X) (l : Log) (v j : ℕ) (p : Progress) (x : X) → v < length l.vehicles
-    → f (set (vehicle_at l v) j (reached (step_at l v j) p)) ≡ x
+    → f (steps_with (vehicle_at l v) j p) ≡ x
     → (u : ℕ) → f (vehicle_at (marked l v j p) u) ≡ put (λ w. f (vehicle_at l w)) v x u
 read_marked f l v j p x known h u =
     ⊎_elim
@@ -41,7 +41,7 @@ booked_step rs j =
     ∙ ap booking_of (sym (get_or_past rs j blank ge)))
     (cases_lt j (length rs))
 
-same_job : (rs : List StepRecord) (j : ℕ) (p : Progress) → map booking_of (set rs j (reached (get_or rs j blank) p)) ≡ map booking_of rs
+same_job : (rs : List StepRecord) (j : ℕ) (p : Progress) → map booking_of (steps_with rs j p) ≡ map booking_of rs
 same_job rs j p =
     map-set booking_of rs j (reached (get_or rs j blank) p)
     ∙ (ap (set (map booking_of rs) j) (sym (booked_step rs j)) ∙ set-get_or (map booking_of rs) j (record { station = 0; length = 0 }))
@@ -82,8 +82,8 @@ free_config l k a b s f g =
 module _ (l : Log) (v j : ℕ) (p : Progress) (known : v < length l.vehicles) (old : Lasting l) (new : Lasting (marked l v j p))
     (m : Transition Place (Unit {0})) (has : JobHas (jobs_of l v) m) (from : (config_of l).state v ≡ m.from)
     (allowed : m.guard (λ c. (config_of l).clocks (v, c)) ≡ true)
-    (to : place_of (set (vehicle_at l v) j (reached (step_at l v j) p)) ≡ m.to)
-    (clock : clock_of l.minute (set (vehicle_at l v) j (reached (step_at l v j) p)) ≡ cond (m.resets tt) 0 (clock_of l.minute (vehicle_at l v))) where
+    (to : place_of (steps_with (vehicle_at l v) j p) ≡ m.to)
+    (clock : clock_of l.minute (steps_with (vehicle_at l v) j p) ≡ cond (m.resets tt) 0 (clock_of l.minute (vehicle_at l v))) where
   state_after : (config_of (marked l v j p)).state ≡ put (config_of l).state v m.to
   state_after = fun_ext (read_marked place_of l v j p m.to known to)
 
@@ -101,8 +101,8 @@ module _ (l : Log) (v j : ℕ) (p : Progress) (known : v < length l.vehicles) (o
       ∙ ap (λ t. cond t 0 (clock_of l.minute (vehicle_at l u))) (sym (cond-false (eqb u v) (m.resets tt) false (ne_eqb _ _ ne))))
       (cases_eq u v)
 
-  pub moves : Discrete (hall_automaton (jobs_of l)) (config_of l) (config_of (marked l v j p))
-  moves = record {
+  pub moves : Discrete (hall_automaton (jobs_of l)) (config_of l) (config_of (marked l v j p)) × ((config_of (marked l v j p)).state v ≡ m.to)
+  moves = (record {
     move = alone (config_of l).state v m;
     has = record {
       who = v;
@@ -118,10 +118,7 @@ module _ (l : Log) (v j : ℕ) (p : Progress) (known : v < length l.vehicles) (o
     allowed = allowed;
     enters = state_after;
     clocks = fun_ext (λ d. clock_after d.0);
-  }
-
-  pub moved_to : (config_of (marked l v j p)).state v ≡ m.to
-  moved_to = ap (λ q. q v) state_after ∙ put_here (config_of l).state v m.to v refl
+  }, ap (λ q. q v) state_after ∙ put_here (config_of l).state v m.to v refl)
 
 -- a discrete step of the composition that changes the state of vehicle v is one of its job
 pub record ByVehicle (jobs : ℕ → List Step) (x y : Config) (v : ℕ) : Type 0 where

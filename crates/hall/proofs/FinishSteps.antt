@@ -7,19 +7,20 @@ use Rattle.hall.specs.declared.step.Step.{Step}
 use Rattle.hall.specs.Automaton.{Transition}
 use Rattle.hall.specs.Job.{Place, waits, runs, final, before, step_of, finishing, JobHas, Config, booking_of, jobs_of, place_of, clock_of, config_of, Finishes}
 use Rattle.hall.specs.Lasting.{Lasting}
-use Rattle.hall.specs.Log.{Log, vehicle_at, step_at, reached, marked, begin_of, least_time}
+use Rattle.hall.specs.Log.{Log, vehicle_at, step_at, reached, marked, begin_of, least_time, steps_with}
 use Rattle.hall.specs.Rules.{finish_answer}
 use Rattle.hall.proofs.BeginSteps.{known_by_steps}
-use Rattle.hall.proofs.Configurations.{booked_step, place_running, moves, moved_to, by_vehicle}
+use Rattle.hall.proofs.Configurations.{booked_step, place_running, moves, by_vehicle}
 use Rattle.hall.proofs.Finishes.{MayFinish, finish_ok}
 use Rattle.hall.proofs.Keeping.{lasts_finish, finish_runs}
-use Rattle.hall.proofs.Stages.{Between, Within, finished_between, between_place, between_last, within_place, within_last, place_runs, running_within, written_here, written_length}
+use Rattle.hall.proofs.Stages.{Between, Within, finished_between, between_place, between_last, within_place, within_last, place_runs, running_within}
+use Rattle.hall.proofs.Spots.{length-steps_with, step-steps_with}
 
 module _ (l : Log) (v n : ℕ) (k : Lasting l) (m : MayFinish l v n) where
   within : Within (vehicle_at l v) n (begin_of (step_at l v n).progress)
   within = running_within l k v n (finish_runs l v n k m)
 
-  between : Between (set (vehicle_at l v) n (reached (step_at l v n) (Done (begin_of (step_at l v n).progress) l.minute))) (n + 1)
+  between : Between (steps_with (vehicle_at l v) n (Done (begin_of (step_at l v n).progress) l.minute)) (n + 1)
   between = finished_between (vehicle_at l v) n (begin_of (step_at l v n).progress) l.minute within
 
   from : (config_of l).state v ≡ runs n
@@ -33,14 +34,14 @@ module _ (l : Log) (v n : ℕ) (k : Lasting l) (m : MayFinish l v n) where
     within_last (vehicle_at l v) n (begin_of (step_at l v n).progress) within,
   ))
 
-  to : place_of (set (vehicle_at l v) n (reached (step_at l v n) (Done (begin_of (step_at l v n).progress) l.minute))) ≡ before (length (jobs_of l v)) (n + 1)
+  to : place_of (steps_with (vehicle_at l v) n (Done (begin_of (step_at l v n).progress) l.minute)) ≡ before (length (jobs_of l v)) (n + 1)
   to = between_place _ (n + 1) between
-      ∙ ap (λ c. before c (n + 1)) (written_length (vehicle_at l v) n (Done (begin_of (step_at l v n).progress) l.minute) m.within ∙ sym (length-map (vehicle_at l v) booking_of))
+      ∙ ap (λ c. before c (n + 1)) (length-steps_with (vehicle_at l v) n (Done (begin_of (step_at l v n).progress) l.minute) ∙ sym (length-map (vehicle_at l v) booking_of))
 
-  clock : clock_of l.minute (set (vehicle_at l v) n (reached (step_at l v n) (Done (begin_of (step_at l v n).progress) l.minute))) ≡ clock_of l.minute (vehicle_at l v)
+  clock : clock_of l.minute (steps_with (vehicle_at l v) n (Done (begin_of (step_at l v n).progress) l.minute)) ≡ clock_of l.minute (vehicle_at l v)
   clock =
       ap (λ b. l.minute - b) (between_last _ n between
-      ∙ (ap (λ r. begin_of r.progress) (written_here (vehicle_at l v) n (Done (begin_of (step_at l v n).progress) l.minute) m.within)
+      ∙ (ap (λ r. begin_of r.progress) (step-steps_with (vehicle_at l v) n (Done (begin_of (step_at l v n).progress) l.minute) m.within)
       ∙ sym (within_last (vehicle_at l v) n (begin_of (step_at l v n).progress) within)))
 
   has : JobHas (jobs_of l v) (finishing (jobs_of l v) n)
@@ -49,11 +50,8 @@ module _ (l : Log) (v n : ℕ) (k : Lasting l) (m : MayFinish l v n) where
   pub finishes : Finishes l v n (config_of (marked l v n (Done (begin_of (step_at l v n).progress) l.minute)))
   finishes =
       let p = Done (begin_of (step_at l v n).progress) l.minute in
-      record {
-        step = moves l v n p m.known k (lasts_finish l v n k m) (finishing (jobs_of l v) n) has from allowed to clock;
-        ran = from;
-        went_on = moved_to l v n p m.known k (lasts_finish l v n k m) (finishing (jobs_of l v) n) has from allowed to clock;
-      }
+      let s = moves l v n p m.known k (lasts_finish l v n k m) (finishing (jobs_of l v) n) has from allowed to clock in
+      record { step = s.0; ran = from; went_on = s.1 }
 
 before_runs : (c j i : ℕ) (p : Place) → p ≡ before c j → p ≡ runs i → ⊥
 before_runs c j i p a b = by (ltb j c) (sym b ∙ a)
@@ -83,5 +81,9 @@ only_finishes l k v n z f =
     let r = place_running (vehicle_at l v) n f.ran in
     let since = within_last (vehicle_at l v) n (begin_of (step_at l v n).progress) (running_within l k v n r) in
     let long = late_enough (jobs_of l v) x.move n (clock_of l.minute (vehicle_at l v)) x.has (sym f.ran ∙ x.from) x.allowed in
-    finish_ok l v n (sym w.0) in-hall w.1
-    (omega (arith, long, since, k.begins v n, ap (λ s. s.length) (booked_step (vehicle_at l v) n)))
+    finish_ok l v n (record {
+      known = in-hall;
+      step = sym w.0;
+      within = w.1;
+      late = omega (arith, long, since, k.begins v n, ap (λ s. s.length) (booked_step (vehicle_at l v) n));
+    })

@@ -5,22 +5,20 @@ use Rattle.std.proofs.lemmas.List.{length-map}
 use Rattle.std.specs.List.{AllByRecursion}
 use Rattle.hall.specs.declared.board.Board.{Board}
 use Rattle.hall.specs.declared.fault.BoardFault.{BoardFault}
+use Rattle.hall.specs.declared.step.Progress.{Progress}
 use Rattle.hall.specs.declared.step.Progress.TheVariants.{Waiting, Running, Done}
 use Rattle.hall.specs.declared.step.Step.{Step}
 use Rattle.hall.specs.Automaton.{Discrete, starting, Run}
 use Rattle.hall.specs.Automaton as automaton
 use Rattle.hall.specs.Hall.{hall_log, Called}
-use Rattle.hall.specs.Job.{Place, Config, before, hall_automaton, booking_of, jobs_of, config_of}
+use Rattle.hall.specs.Job.{Place, Config, before, hall_automaton, booking_of, jobs_of, config_of, Begins, Finishes}
 use Rattle.hall.specs.Log.{Log, empty_log, vehicle_at, step_at, marked, waiting, begin_of}
 use Rattle.hall.specs.Rules.{Call, enter, begin, finish, pass, answer_to, written, after, log_after_all, enter_log, pass_log}
 use Rattle.hall.specs.Series.{Made, Led, left, KeptFromArguments, Accepted, Enters, Works, duration_of, run_step, RunFrom, RunsAsComposed}
-use Rattle.hall.proofs.BeginSteps.{begins}
-use Rattle.hall.proofs.Begins.{may_begin}
 use Rattle.hall.proofs.Configurations.{same_jobs}
-use Rattle.hall.proofs.FinishSteps.{finishes}
-use Rattle.hall.proofs.Finishes.{may_finish}
 use Rattle.hall.proofs.Kept.{kept}
 use Rattle.hall.proofs.KeptByEnter.{quiet_enter}
+use Rattle.hall.proofs.Marks.{Marking, begin_marks, finish_marks}
 use Rattle.hall.proofs.PassSteps.{passes}
 use Rattle.hall.proofs.Stages.{between_place}
 
@@ -75,30 +73,34 @@ fresh_start l f =
     config : (ℕ → Place) → (ℕ × Unit {0} → ℕ) → Config
     config q c = record { state = q; clocks = c }
 
+-- an accepted call leaves the log that it writes
+left_log : (b b' : Board) (c : Call) (n : ℕ) → Called b c (Ok n) b' → hall_log b' ≡ written (hall_log b) c
+left_log b b' c n h = h.log ∙ ap (λ r. after r (written (hall_log b) c) (hall_log b)) (sym h.answer)
+
+-- where it marks a step, that is a discrete step of the composition, and leaves the jobs
+by_mark : (b b' : Board) (c : Call) (Takes : Config → Type 0) (v n : ℕ) (p : Progress) → Marking (hall_log b) c Takes v n p
+    → Called b c (Ok n) b' → Discrete (hall_automaton (jobs_of (hall_log b))) (config_of (hall_log b)) (config_of (marked (hall_log b) v n p))
+    → automaton.Step (hall_automaton (jobs_of (hall_log b))) 0 (config_of (hall_log b)) (config_of (hall_log b'))
+    × (jobs_of (hall_log b') ≡ jobs_of (hall_log b))
+by_mark b b' c Takes v n p k h s =
+    let e : hall_log b' ≡ marked (hall_log b) v n p = left_log b b' c n h ∙ sym k.log in (
+      inl (refl, subst (λ x. Discrete (hall_automaton (jobs_of (hall_log b))) (config_of (hall_log b)) (config_of x)) (sym e) s),
+      ap jobs_of e ∙ same_jobs (hall_log b) v n p k.known,
+    )
+
 -- an accepted call is a step of the composition, and leaves the jobs
 step_of : (b b' : Board) (c : Call) (n : ℕ) → Called b c (Ok n) b' → Works c
     → automaton.Step (hall_automaton (jobs_of (hall_log b))) (duration_of c) (config_of (hall_log b)) (config_of (hall_log b'))
     × (jobs_of (hall_log b') ≡ jobs_of (hall_log b))
 step_of b b' (enter ss) n h w = absurd w
 step_of b b' (begin v) n h w =
-    let m = may_begin (hall_log b) v n h.answer in
-    let e : hall_log b' ≡ marked (hall_log b) v n (Running b.minute)
-    = h.log ∙ (ap (λ r. after r (written (hall_log b) (begin v)) (hall_log b)) (sym h.answer)
-    ∙ ap (λ k. marked (hall_log b) v k (Running b.minute)) (sym m.next)) in (
-      inl (refl, subst (λ x. Discrete (hall_automaton (jobs_of (hall_log b))) (config_of (hall_log b)) (config_of x)) (sym e) (begins (hall_log b) v n (kept b) m).step),
-      ap jobs_of e ∙ same_jobs (hall_log b) v n (Running b.minute) m.known,
-    )
+    let k = begin_marks (hall_log b) v n (kept b) h.answer in
+    by_mark b b' (begin v) (Begins (hall_log b) v n) v n (Running b.minute) k h k.takes.step
 step_of b b' (finish v) n h w =
-    let m = may_finish (hall_log b) v n h.answer in
-    let e : hall_log b' ≡ marked (hall_log b) v n (Done (begin_of (step_at (hall_log b) v n).progress) b.minute)
-    = h.log ∙ (ap (λ r. after r (written (hall_log b) (finish v)) (hall_log b)) (sym h.answer)
-    ∙ ap (λ k. marked (hall_log b) v k (Done (begin_of (step_at (hall_log b) v k).progress) b.minute)) (sym m.step)) in (
-      inl (refl, subst (λ x. Discrete (hall_automaton (jobs_of (hall_log b))) (config_of (hall_log b)) (config_of x)) (sym e) (finishes (hall_log b) v n (kept b) m).step),
-      ap jobs_of e ∙ same_jobs (hall_log b) v n (Done (begin_of (step_at (hall_log b) v n).progress) b.minute) m.known,
-    )
+    let k = finish_marks (hall_log b) v n (kept b) h.answer in
+    by_mark b b' (finish v) (Finishes (hall_log b) v n) v n (Done (begin_of (step_at (hall_log b) v n).progress) b.minute) k h k.takes.step
 step_of b b' (pass t) n h w =
-    let e : hall_log b' ≡ pass_log (hall_log b) t
-    = h.log ∙ ap (λ r. after r (written (hall_log b) (pass t)) (hall_log b)) (sym h.answer) in (
+    let e = left_log b b' (pass t) n h in (
       inr (subst (λ x. automaton.Elapses t (config_of (hall_log b)) (config_of x)) (sym e) (passes (hall_log b) (kept b) t n h.answer).step),
       ap jobs_of e,
     )

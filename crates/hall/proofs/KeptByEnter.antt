@@ -17,16 +17,8 @@ record Within (s : StepRecord) : Type 0 where
   shortest : 1 ≤ s.length
   longest : s.length ≤ 1440
 
-passed : (b : Bool) (e : BoardFault) (rest : Option BoardFault) → cond b (Some e) rest ≡ None → (b ≡ false) × (rest ≡ None)
-passed true e rest h = let z : ◌≡◌ {A = ℕ} 0 1 = cc in absurd (omega arith)
-passed false e rest h = (refl, h)
-
 first_within : (k : ℕ) (s : Step) (ss : List Step) → step_fault k (s ∷ ss) ≡ None → Within (booked s) × (step_fault (k + 1) ss ≡ None)
-first_within k s ss h =
-    let a = passed _ _ _ h in
-    let b = passed _ _ _ a.1 in
-    let c = passed _ _ _ b.1 in
-    (record { placed = ltb-false _ _ a.0; shortest = ltb-false _ _ b.0; longest = ltb-false _ _ c.0 }, c.1)
+first_within k s ss h = (record { placed = grind arith; shortest = grind arith; longest = grind arith }, grind arith)
 
 -- the steps of a booking without a fault are within the limits
 within : (k : ℕ) (ss : List Step) → step_fault k ss ≡ None → (j : ℕ) → j < length (map booked ss) → Within (get_or (map booked ss) j blank)

@@ -1,5 +1,4 @@
 pub mod Leading
-pub mod Fronts
 pub mod Views
 pub mod Rows
 pub mod Begins

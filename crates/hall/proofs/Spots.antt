@@ -1,8 +1,8 @@
 -- One step's record changes, and the others stay: what then still holds of all steps.
-use Rattle.std.proofs.Common.{◌≡◌, ℕ, ◌<◌, ◌≤◌, true, ◌⊎◌, [], length, get_or, set, sym, refl, ap, ◌∙◌, subst, inl, inr, ⊎_elim, arith}
+use Rattle.std.proofs.Common.{◌≡◌, ℕ, ◌<◌, ◌≤◌, true, ◌⊎◌, List, [], length, get_or, set, sym, refl, ap, ◌∙◌, subst, inl, inr, ⊎_elim, arith}
 use Rattle.std.proofs.lemmas.List.{get_or-set_same, get_or-set_other, length-set}
 use Rattle.std.proofs.lemmas.Bool.{cases_eq}
-use Rattle.hall.specs.Log.{Log, vehicle_at, step_at, blank, reached, marked, begun, finished, begin_of, end_of}
+use Rattle.hall.specs.Log.{Log, vehicle_at, step_at, blank, reached, marked, begun, finished, begin_of, end_of, steps_with}
 use Rattle.hall.specs.declared.step.StepRecord.{StepRecord}
 use Rattle.hall.specs.declared.step.Progress.{Progress}
 
@@ -10,23 +10,34 @@ use Rattle.hall.specs.declared.step.Progress.{Progress}
 abbrev pub Spot : (ℕ → ℕ → StepRecord) → (ℕ → ℕ → StepRecord) → ℕ → ℕ → StepRecord → ℕ → ℕ → Type 0
 Spot S S' v j r u i = ((u ≡ v) × (i ≡ j) × (S' u i ≡ r)) ⊎ ((u ≡ v → i ≡ j → ⊥) × (S' u i ≡ S u i))
 
+-- one step of a vehicle is written
+module _ (rs : List StepRecord) (j : ℕ) (p : Progress) where
+  pub length-steps_with : length (steps_with rs j p) ≡ length rs
+  length-steps_with = length-set rs j (reached (get_or rs j blank) p)
+
+  pub step-steps_with : j < length rs → get_or (steps_with rs j p) j blank ≡ reached (get_or rs j blank) p
+  step-steps_with lt = get_or-set_same rs j (reached (get_or rs j blank) p) blank lt
+
+  pub other-steps_with : (i : ℕ) → (i ≡ j → ⊥) → get_or (steps_with rs j p) i blank ≡ get_or rs i blank
+  other-steps_with i ne = get_or-set_other rs j i (reached (get_or rs j blank) p) blank ne
+
 module _ (l : Log) (v j : ℕ) (p : Progress) (known : v < length l.vehicles) where
-  pub row_of : vehicle_at (marked l v j p) v ≡ set (vehicle_at l v) j (reached (step_at l v j) p)
-  row_of = get_or-set_same l.vehicles v (set (vehicle_at l v) j (reached (step_at l v j) p)) [] known
+  pub row_of : vehicle_at (marked l v j p) v ≡ steps_with (vehicle_at l v) j p
+  row_of = get_or-set_same l.vehicles v (steps_with (vehicle_at l v) j p) [] known
 
   pub other_row : (u : ℕ) → (u ≡ v → ⊥) → vehicle_at (marked l v j p) u ≡ vehicle_at l u
-  other_row u ne = get_or-set_other l.vehicles v u (set (vehicle_at l v) j (reached (step_at l v j) p)) [] ne
+  other_row u ne = get_or-set_other l.vehicles v u (steps_with (vehicle_at l v) j p) [] ne
 
   -- no vehicle gets more steps
   pub same_size : (u : ℕ) → length (vehicle_at (marked l v j p) u) ≡ length (vehicle_at l u)
   same_size u =
       ⊎_elim
       (λ e. subst (λ w. length (vehicle_at (marked l v j p) w) ≡ length (vehicle_at l w)) (sym e)
-      (ap length row_of ∙ length-set (vehicle_at l v) j (reached (step_at l v j) p)))
+      (ap length row_of ∙ length-steps_with (vehicle_at l v) j p))
       (λ ne. ap length (other_row u ne)) (cases_eq u v)
 
   pub same_fleet : length (marked l v j p).vehicles ≡ length l.vehicles
-  same_fleet = length-set l.vehicles v (set (vehicle_at l v) j (reached (step_at l v j) p))
+  same_fleet = length-set l.vehicles v (steps_with (vehicle_at l v) j p)
 
   module _ (in' : j < length (vehicle_at l v)) where
     here : (i : ℕ) → (i ≡ j) ⊎ (i ≡ j → ⊥) → Spot (step_at l) (step_at (marked l v j p)) v j (reached (step_at l v j) p) v i
@@ -34,13 +45,13 @@ module _ (l : Log) (v j : ℕ) (p : Progress) (known : v < length l.vehicles) wh
       refl,
       e,
       ap (λ xs. get_or xs i blank) row_of
-          ∙ (ap (λ k. get_or (set (vehicle_at l v) j (reached (step_at l v j) p)) k blank) e
-          ∙ get_or-set_same (vehicle_at l v) j (reached (step_at l v j) p) blank in'),
+          ∙ (ap (λ k. get_or (steps_with (vehicle_at l v) j p) k blank) e
+          ∙ step-steps_with (vehicle_at l v) j p in'),
     )
     here i (inr ne) = inr (
       λ _. ne,
       ap (λ xs. get_or xs i blank) row_of
-          ∙ get_or-set_other (vehicle_at l v) j i (reached (step_at l v j) p) blank ne,
+          ∙ other-steps_with (vehicle_at l v) j p i ne,
     )
 
     pub spot : (u i : ℕ) → Spot (step_at l) (step_at (marked l v j p)) v j (reached (step_at l v j) p) u i

@@ -2,16 +2,17 @@
 use Rattle.std.proofs.Common.{◌≡◌, ℕ, ◌+◌, ◌-◌, ◌<◌, ◌≤◌, Bool, true, false, cond, not, ltb, List, length, get_or, set, sym, refl, ap, ◌∙◌, ⊎_elim, arith}
 use Rattle.std.specs.List.{prefix_len}
 use Rattle.std.proofs.lemmas.List.{get_or_past, get_or-set_same, get_or-set_other, length-set}
-use Rattle.std.proofs.lemmas.List.Sums.{prefix_len-le-length}
+use Rattle.std.proofs.lemmas.List.Sums.{prefix_len_is}
 use Rattle.std.proofs.lemmas.Bool.{cases_lt, cases_order, cases_eq, cases_Bool, both_ways, lt-ltb, le-ltb, ltb-true, ltb-false}
 use Rattle.hall.specs.declared.step.Progress.{Progress}
 use Rattle.hall.specs.declared.step.Progress.TheVariants.{Waiting, Running, Done}
 use Rattle.hall.specs.declared.step.StepRecord.{StepRecord}
 use Rattle.hall.specs.Job.{waits, runs, final, before, place_of, last_begin}
-use Rattle.hall.specs.Log.{Log, vehicle_at, step_at, blank, reached, begun, idle, finished, running, waiting, begin_of, next_step, running_step}
+use Rattle.hall.specs.Log.{Log, vehicle_at, step_at, blank, reached, begun, idle, finished, running, waiting, begin_of, next_step, running_step, steps_with}
 use Rattle.hall.specs.Lasting.{Lasting}
 use Rattle.hall.proofs.Leading.{leading_below, leading_at}
 use Rattle.hall.proofs.Keeping.{done_begun, done_idle, running_begun}
+use Rattle.hall.proofs.Spots.{length-steps_with, step-steps_with, other-steps_with}
 
 -- n steps are finished, and the others wait
 pub record Between (rs : List StepRecord) (n : ℕ) : Type 0 where
@@ -26,15 +27,6 @@ pub record Within (rs : List StepRecord) (n m : ℕ) : Type 0 where
   pub here : (get_or rs n blank).progress ≡ Running m
   pub later : (b : ℕ) → n < b → begun (get_or rs b blank) ≡ false
 
--- the front is as long as the place of the first that fails
-pub leading_is : {X : Type 0} (p : X → Bool) (xs : List X) (i : ℕ) (d : X) → i ≤ length xs
-    → ((k : ℕ) → k < i → p (get_or xs k d) ≡ true) → (i < length xs → p (get_or xs i d) ≡ false) → prefix_len p xs ≡ i
-leading_is p xs i d h below at =
-    ⊎_elim (λ e. e)
-    (⊎_elim (λ lt. absurd (both_ways _ (leading_at p xs d (omega arith)) (below (prefix_len p xs) lt)))
-    (λ lt. absurd (both_ways _ (at (omega (arith, prefix_len-le-length p xs))) (leading_below p xs i d lt))))
-    (cases_order (prefix_len p xs) i)
-
 waiting_idle : (p : Progress) → not (waiting p) ≡ false → not (running p) ≡ true
 waiting_idle Waiting h = refl
 waiting_idle (Running b) h = absurd (both_ways true h refl)
@@ -42,7 +34,7 @@ waiting_idle (Done b e) h = refl
 
 module _ (rs : List StepRecord) (n : ℕ) (k : Between rs n) where
   pub between_next : next_step rs ≡ n
-  between_next = leading_is begun rs n blank k.few (λ a lt. done_begun _ (k.earlier a lt)) (λ lt. k.later n (omega arith))
+  between_next = prefix_len_is begun rs n blank k.few (λ a lt. done_begun _ (k.earlier a lt)) (λ lt. k.later n (omega arith))
 
   -- none of the steps runs
   rests : (i : ℕ) → idle (get_or rs i blank) ≡ true
@@ -50,7 +42,7 @@ module _ (rs : List StepRecord) (n : ℕ) (k : Between rs n) where
       ⊎_elim (λ lt. ap not (done_idle _ (k.earlier i lt))) (λ ge. waiting_idle _ (k.later i ge)) (cases_lt i n)
 
   pub between_running : running_step rs ≡ length rs
-  between_running = leading_is idle rs (length rs) blank (omega arith) (λ i lt. rests i) (λ lt. absurd (omega arith))
+  between_running = prefix_len_is idle rs (length rs) blank (omega arith) (λ i lt. rests i) (λ lt. absurd (omega arith))
 
   pub between_place : place_of rs ≡ before (length rs) n
   between_place =
@@ -60,14 +52,14 @@ module _ (rs : List StepRecord) (n : ℕ) (k : Between rs n) where
 module _ (rs : List StepRecord) (n m : ℕ) (k : Within rs n m) where
   pub within_next : next_step rs ≡ n + 1
   within_next =
-      leading_is begun rs (n + 1) blank (omega (arith, k.few))
+      prefix_len_is begun rs (n + 1) blank (omega (arith, k.few))
       (λ a lt. ⊎_elim (λ e. ap (λ i. begun (get_or rs i blank)) e ∙ ap (λ p. not (waiting p)) k.here)
       (λ ne. done_begun _ (k.earlier a (omega arith))) (cases_eq a n))
       (λ lt. k.later (n + 1) (omega arith))
 
   pub within_running : running_step rs ≡ n
   within_running =
-      leading_is idle rs n blank (omega (arith, k.few)) (λ a lt. ap not (done_idle _ (k.earlier a lt)))
+      prefix_len_is idle rs n blank (omega (arith, k.few)) (λ a lt. ap not (done_idle _ (k.earlier a lt)))
       (λ lt. ap (λ p. not (running p)) k.here)
 
   pub within_place : place_of rs ≡ runs n
@@ -107,36 +99,25 @@ place_waits rs i h =
     by false true r n h = (refl, refl, cc)
     by false false r n h = let z : ◌≡◌ {A = ℕ} 0 1 = cc in absurd (omega arith)
 
--- one step is written
-module _ (rs : List StepRecord) (n : ℕ) (p : Progress) (lt : n < length rs) where
-  pub written_here : get_or (set rs n (reached (get_or rs n blank) p)) n blank ≡ reached (get_or rs n blank) p
-  written_here = get_or-set_same rs n (reached (get_or rs n blank) p) blank lt
-
-  pub written_other : (i : ℕ) → (i ≡ n → ⊥) → get_or (set rs n (reached (get_or rs n blank) p)) i blank ≡ get_or rs i blank
-  written_other i ne = get_or-set_other rs n i (reached (get_or rs n blank) p) blank ne
-
-  pub written_length : length (set rs n (reached (get_or rs n blank) p)) ≡ length rs
-  written_length = length-set rs n (reached (get_or rs n blank) p)
-
 -- a vehicle between two steps that begins one runs it
 pub begun_within : (rs : List StepRecord) (n m : ℕ) → n < length rs → Between rs n
-    → Within (set rs n (reached (get_or rs n blank) (Running m))) n m
+    → Within (steps_with rs n (Running m)) n m
 begun_within rs n m lt k = record {
-  few = omega (arith, written_length rs n (Running m) lt);
-  earlier = λ a l. ap finished (written_other rs n (Running m) lt a (λ e. omega arith)) ∙ k.earlier a l;
-  here = ap (λ r. r.progress) (written_here rs n (Running m) lt);
-  later = λ b l. ap begun (written_other rs n (Running m) lt b (λ e. omega arith)) ∙ k.later b (omega arith);
+  few = omega (arith, length-steps_with rs n (Running m));
+  earlier = λ a l. ap finished (other-steps_with rs n (Running m) a (λ e. omega arith)) ∙ k.earlier a l;
+  here = ap (λ r. r.progress) (step-steps_with rs n (Running m) lt);
+  later = λ b l. ap begun (other-steps_with rs n (Running m) b (λ e. omega arith)) ∙ k.later b (omega arith);
 }
 
 -- and one that finishes it is between two again
 pub finished_between : (rs : List StepRecord) (n m e : ℕ) → Within rs n m
-    → Between (set rs n (reached (get_or rs n blank) (Done m e))) (n + 1)
+    → Between (steps_with rs n (Done m e)) (n + 1)
 finished_between rs n m e k = record {
-  few = omega (arith, written_length rs n (Done m e) k.few, k.few);
+  few = omega (arith, length-steps_with rs n (Done m e), k.few);
   earlier = λ a l. ⊎_elim
-      (λ q. ap (λ i. finished (get_or (set rs n (reached (get_or rs n blank) (Done m e))) i blank)) q ∙ ap finished (written_here rs n (Done m e) k.few))
-      (λ ne. ap finished (written_other rs n (Done m e) k.few a ne) ∙ k.earlier a (omega arith)) (cases_eq a n);
-  later = λ b l. ap begun (written_other rs n (Done m e) k.few b (λ q. omega arith)) ∙ k.later b (omega arith);
+      (λ q. ap (λ i. finished (get_or (steps_with rs n (Done m e)) i blank)) q ∙ ap finished (step-steps_with rs n (Done m e) k.few))
+      (λ ne. ap finished (other-steps_with rs n (Done m e) a ne) ∙ k.earlier a (omega arith)) (cases_eq a n);
+  later = λ b l. ap begun (other-steps_with rs n (Done m e) b (λ q. omega arith)) ∙ k.later b (omega arith);
 }
 
 running_is : (p : Progress) → running p ≡ true → p ≡ Running (begin_of p)

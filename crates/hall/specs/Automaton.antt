@@ -1,5 +1,5 @@
 -- Timed automata, with time in whole minutes.
-use Rattle.std.specs.Prelude.{◌≡◌, ℕ, ◌+◌, Bool, true, cond, ◌⊎◌, List, [], ◌∷◌}
+use Rattle.std.specs.Prelude.{◌≡◌, ℕ, ◌+◌, Bool, true, if◌then◌else◌, ◌⊎◌, List, [], ◌∷◌}
 
 -- a transition leads from a state to a state; its guard says at which clock values it may be taken, and it resets
 -- some of the clocks
@@ -26,7 +26,7 @@ starting A = record { state = A.start; clocks = λ c. 0 }
 
 -- the clocks after a reset of some of them
 abbrev pub reset : {C : Type 0} → (C → Bool) → (C → ℕ) → C → ℕ
-reset some clocks c = cond (some c) 0 (clocks c)
+reset some clocks c = if some c then 0 else clocks c
 
 -- a discrete step: a transition whose guard holds is taken
 pub record Discrete {Q C : Type 0} (A : Automaton Q C) (x y : Configuration Q C) : Type 0 where

@@ -1,10 +1,10 @@
 -- The mutual exclusion composition of timed automata that share stations.
-use Rattle.std.specs.Prelude.{◌≡◌, ℕ, false, cond, Some, Option, ◌==◌}
+use Rattle.std.specs.Prelude.{◌≡◌, ℕ, false, if◌then◌else◌, Some, Option, ◌==◌}
 use Rattle.hall.specs.Automaton.{Transition, Automaton}
 
 -- the family f with x at place a
 abbrev pub put : {X : Type 0} → (ℕ → X) → ℕ → X → ℕ → X
-put f a x b = cond (b == a) x (f b)
+put f a x b = if b == a then x else f b
 
 -- a state of the composition, one of each automaton, is free of conflict: no two automata use one station.
 -- `uses a q` is the station that automaton a uses in its state q, if any
@@ -16,7 +16,7 @@ abbrev pub alone : {Q C : Type 0} → (ℕ → Q) → ℕ → Transition Q C →
 alone q a m = record {
   from = q;
   guard = λ clocks. m.guard (λ c. clocks (a, c));
-  resets = λ d. cond (d.0 == a) (m.resets d.1) false;
+  resets = λ d. if d.0 == a then m.resets d.1 else false;
   to = put q a m.to;
 }
 

@@ -1,5 +1,5 @@
 -- A vehicle's job as a timed automaton with one clock, the composition of the jobs in the hall, and its steps.
-use Rattle.std.specs.Prelude.{◌≡◌, ℕ, ◌+◌, ◌-◌, ◌<◌, ◌≤◌, true, false, cond, ◌⊎◌, List, map, length, get_or, Some, None, Option, Result, MatchResult, nat_le, nat_lt, slice_index_or}
+use Rattle.std.specs.Prelude.{◌≡◌, ℕ, ◌+◌, ◌-◌, ◌<◌, ◌≤◌, true, false, if◌then◌else◌, ◌⊎◌, List, map, length, Some, None, Option, Result, MatchResult, nat_le, nat_lt, slice_index_or}
 use Rattle.hall.specs.declared.fault.BoardFault.{BoardFault}
 use Rattle.hall.specs.declared.step.Step.{Step}
 use Rattle.hall.specs.declared.step.StepRecord.{StepRecord}
@@ -16,7 +16,7 @@ pub data Place : Type 0 where
 
 -- the state of a job of k steps before its step j
 abbrev pub before : ℕ → ℕ → Place
-before k j = cond (nat_lt j k) (waits j) final
+before k j = if nat_lt j k then waits j else final
 
 -- step j of a job; past its last there is none
 abbrev pub step_of : List Step → ℕ → Step
@@ -65,11 +65,11 @@ jobs_of l v = map booking_of (vehicle_at l v)
 
 -- a vehicle with a running step runs it; any other waits for its next step, or has none left
 abbrev pub place_of : List StepRecord → Place
-place_of rs = cond (nat_lt (running_step rs) (length rs)) (runs (running_step rs)) (before (length rs) (next_step rs))
+place_of rs = if nat_lt (running_step rs) (length rs) then runs (running_step rs) else before (length rs) (next_step rs)
 
 -- when the vehicle last began a step, 0 where it has not
 abbrev pub last_begin : List StepRecord → ℕ
-last_begin rs = begin_of (get_or rs (next_step rs - 1) blank).progress
+last_begin rs = begin_of (slice_index_or rs (next_step rs - 1) blank).progress
 
 -- its clock has counted from there
 abbrev pub clock_of : ℕ → List StepRecord → ℕ

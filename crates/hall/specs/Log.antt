@@ -1,6 +1,6 @@
 -- The hall log: a minute, which is now, and the steps of each vehicle with the begins and ends recorded of them.
-use Rattle.std.specs.Prelude.{ℕ, Bool, true, false, not, ◌&&◌, ◌||◌, List, [], ◌∷◌, ◌==◌, slice_index_or, slice_set}
-use Rattle.std.specs.List.{prefix_len}
+use Rattle.std.specs.Prelude.{ℕ, Bool, true, false, not, ◌&&◌, List, [], ◌==◌, slice_index_or, slice_set}
+use Rattle.std.specs.List.{list_any, prefix_len}
 use Rattle.hall.specs.declared.step.Progress.{Progress}
 use Rattle.hall.specs.declared.step.Progress.TheVariants.{Waiting, Running, Done}
 use Rattle.hall.specs.declared.step.StepRecord.{StepRecord}
@@ -75,18 +75,20 @@ step_at l v j = slice_index_or (vehicle_at l v) j blank
 
 -- some step of the vehicle runs on the station
 abbrev pub occupies : ℕ → List StepRecord → Bool
-occupies s [] = false
-occupies s (r ∷ rs) = (running r.progress && r.station == s) || occupies s rs
+occupies s rs = list_any (λ r. running r.progress && r.station == s) rs
 
 -- some step of a vehicle runs on the station
 abbrev pub taken : ℕ → List (List StepRecord) → Bool
-taken s [] = false
-taken s (v ∷ vs) = occupies s v || taken s vs
+taken s vs = list_any (occupies s) vs
 
 -- the step record with another progress
 abbrev pub reached : StepRecord → Progress → StepRecord
 reached r p = record { station = r.station; length = r.length; progress = p }
 
+-- a vehicle's steps with another progress at step j
+abbrev pub steps_with : List StepRecord → ℕ → Progress → List StepRecord
+steps_with rs j p = slice_set rs j (reached (slice_index_or rs j blank) p)
+
 -- the log with another progress at step j of vehicle v
 abbrev pub marked : Log → ℕ → ℕ → Progress → Log
-marked l v j p = record { minute = l.minute; vehicles = slice_set l.vehicles v (slice_set (vehicle_at l v) j (reached (step_at l v j) p)) }
+marked l v j p = record { minute = l.minute; vehicles = slice_set l.vehicles v (steps_with (vehicle_at l v) j p) }

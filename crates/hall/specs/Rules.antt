@@ -1,5 +1,5 @@
 -- The rules of the four calls, by the hall log alone: what each call answers, and what it writes into the log.
-use Rattle.std.specs.Prelude.{ℕ, ◌+◌, cond, List, [], ◌∷◌, ◌++◌, map, length, Some, None, Ok, Err, fold, Option, Result, nat_le, nat_lt}
+use Rattle.std.specs.Prelude.{ℕ, ◌+◌, if◌then◌else◌, List, [], ◌∷◌, ◌++◌, map, length, Some, None, Ok, Err, fold, Option, Result, nat_le, nat_lt}
 use Rattle.hall.specs.Log.{Log, vehicle_at, step_at, marked, next_step, running_step, taken, begin_of, least_time}
 use Rattle.hall.specs.declared.fault.BoardFault.{BoardFault}
 use Rattle.hall.specs.declared.fault.BoardFault.TheVariants.{VehicleUnknown, StepRuns, NoStepLeft, StationTaken, NoStepRuns, TooEarly, MinutesOutside, BeyondLastMinute, BoardFull, StepCount, StationUnknown, LengthOutside}
@@ -17,11 +17,11 @@ pub data Call : Type 0 where
 -- begin answers the number of the vehicle's next step
 abbrev pub begin_answer : Log → ℕ → Result ℕ BoardFault
 begin_answer l v =
-    cond (nat_le (length l.vehicles) v) (Err VehicleUnknown)
-    (cond (nat_lt (running_step (vehicle_at l v)) (length (vehicle_at l v))) (Err StepRuns)
-    (cond (nat_le (length (vehicle_at l v)) (next_step (vehicle_at l v))) (Err NoStepLeft)
-    (cond (taken (step_at l v (next_step (vehicle_at l v))).station l.vehicles) (Err StationTaken)
-    (Ok (next_step (vehicle_at l v))))))
+    if nat_le (length l.vehicles) v then Err VehicleUnknown
+    else if nat_lt (running_step (vehicle_at l v)) (length (vehicle_at l v)) then Err StepRuns
+    else if nat_le (length (vehicle_at l v)) (next_step (vehicle_at l v)) then Err NoStepLeft
+    else if taken (step_at l v (next_step (vehicle_at l v))).station l.vehicles then Err StationTaken
+    else Ok (next_step (vehicle_at l v))
 
 -- and writes now as the begin of that step
 abbrev pub begin_log : Log → ℕ → Log
@@ -37,10 +37,10 @@ running_length l v = (step_at l v (running_step (vehicle_at l v))).length
 -- finish answers the number of the vehicle's running step
 abbrev pub finish_answer : Log → ℕ → Result ℕ BoardFault
 finish_answer l v =
-    cond (nat_le (length l.vehicles) v) (Err VehicleUnknown)
-    (cond (nat_le (length (vehicle_at l v)) (running_step (vehicle_at l v))) (Err NoStepRuns)
-    (cond (nat_lt l.minute (running_begin l v + least_time (running_length l v))) (Err TooEarly)
-    (Ok (running_step (vehicle_at l v)))))
+    if nat_le (length l.vehicles) v then Err VehicleUnknown
+    else if nat_le (length (vehicle_at l v)) (running_step (vehicle_at l v)) then Err NoStepRuns
+    else if nat_lt l.minute (running_begin l v + least_time (running_length l v)) then Err TooEarly
+    else Ok (running_step (vehicle_at l v))
 
 -- and writes now as the end of that step
 abbrev pub finish_log : Log → ℕ → Log
@@ -49,10 +49,10 @@ finish_log l v = marked l v (running_step (vehicle_at l v)) (Done (running_begin
 -- pass answers the new minute
 abbrev pub pass_answer : Log → ℕ → Result ℕ BoardFault
 pass_answer l m =
-    cond (nat_lt m 1) (Err MinutesOutside)
-    (cond (nat_lt 1440 m) (Err MinutesOutside)
-    (cond (nat_lt 1000000 (l.minute + m)) (Err BeyondLastMinute)
-    (Ok (l.minute + m))))
+    if nat_lt m 1 then Err MinutesOutside
+    else if nat_lt 1440 m then Err MinutesOutside
+    else if nat_lt 1000000 (l.minute + m) then Err BeyondLastMinute
+    else Ok (l.minute + m)
 
 abbrev pub pass_log : Log → ℕ → Log
 pass_log l m = record { minute = l.minute + m; vehicles = l.vehicles }
@@ -61,22 +61,23 @@ pass_log l m = record { minute = l.minute + m; vehicles = l.vehicles }
 abbrev pub step_fault : ℕ → List Step → Option BoardFault
 step_fault k [] = None
 step_fault k (s ∷ ss) =
-    cond (nat_lt 15 s.station) (Some (StationUnknown k))
-    (cond (nat_lt s.length 1) (Some (LengthOutside k))
-    (cond (nat_lt 1440 s.length) (Some (LengthOutside k))
-    (step_fault (k + 1) ss)))
+    if nat_lt 15 s.station then Some (StationUnknown k)
+    else if nat_lt s.length 1 then Some (LengthOutside k)
+    else if nat_lt 1440 s.length then Some (LengthOutside k)
+    else step_fault (k + 1) ss
 
-abbrev pub unless : Option BoardFault → ℕ → Result ℕ BoardFault
+-- the answer, unless there is a fault
+abbrev pub unless : {A : Type 0} → Option BoardFault → A → Result A BoardFault
 unless None n = Ok n
 unless (Some e) n = Err e
 
 -- enter answers the number of the new vehicle
 abbrev pub enter_answer : Log → List Step → Result ℕ BoardFault
 enter_answer l ss =
-    cond (nat_le 24 (length l.vehicles)) (Err BoardFull)
-    (cond (nat_lt (length ss) 1) (Err StepCount)
-    (cond (nat_lt 8 (length ss)) (Err StepCount)
-    (unless (step_fault 0 ss) (length l.vehicles))))
+    if nat_le 24 (length l.vehicles) then Err BoardFull
+    else if nat_lt (length ss) 1 then Err StepCount
+    else if nat_lt 8 (length ss) then Err StepCount
+    else unless (step_fault 0 ss) (length l.vehicles)
 
 -- a booked step as it is entered
 abbrev pub booked : Step → StepRecord

@@ -1,6 +1,6 @@
 // The board of a hall.
-ghost use Rattle.std.specs.Prelude.{◌≡◌, ◌≤◌, length};
-ghost use Rattle.hall.specs.View.{Counted, Filled, log_of};
+ghost use Rattle.std.specs.Prelude.{◌≤◌};
+ghost use Rattle.hall.specs.View.{log_of};
 ghost use Rattle.hall.specs.Lasting.{Lasting};
 
 use crate::vehicle::Vehicle;
@@ -9,15 +9,13 @@ pub mod calls;
 
 // The first `count` records of the table are the vehicles in the hall, and `minute` is now. What every board keeps,
 // whatever was called on it, is stated by the ghost fields: `lasting` in the words of the hall, the others on the table.
+// The table is a plain array of vehicle records, and begin and finish lend one record of it in place.
 #[derive(Clone, Copy)]
 pub struct Board {
     vehicles: [Vehicle; 24],
     count: usize,
     minute: u32,
     ghost few: { count ≤ 24 },
-    ghost table: { length vehicles ≡ 24 },
-    ghost counted: { Counted vehicles },
-    ghost filled: { Filled vehicles },
     ghost day: { minute ≤ 1000000 },
     ghost lasting: { ∥ Lasting (log_of vehicles count minute) ∥₁ },
 }

@@ -1,6 +1,7 @@
 // Steps: as they are booked, and as the board records them.
 ghost use Rattle.std.specs.Prelude.{◌≡◌};
 ghost use Rattle.hall.specs.Log.{begin_of, least_time};
+ghost use Rattle.hall.specs.Rules.{booked};
 
 // A booked step: a station and a length in minutes.
 #[derive(Clone, Copy, Debug, PartialEq)]
@@ -24,8 +25,7 @@ impl Progress {
     {
         match self {
             Progress::Waiting => 0,
-            Progress::Running { begin } => begin,
-            Progress::Done { begin, .. } => begin,
+            Progress::Running { begin } | Progress::Done { begin, .. } => begin,
         }
     }
 }
@@ -36,6 +36,19 @@ pub struct StepRecord {
     pub station: u32,
     pub length: u32,
     pub progress: Progress,
+}
+
+// A booked step as it is entered, not begun.
+impl From<Step> for StepRecord {
+    ghost from_gives = { λ step r. r ≡ booked step };
+
+    fn from(step: Step) -> StepRecord {
+        StepRecord {
+            station: step.station,
+            length: step.length,
+            progress: Progress::Waiting,
+        }
+    }
 }
 
 impl StepRecord {

@@ -1,9 +1,11 @@
 // A vehicle in the hall.
-ghost use Rattle.std.specs.Prelude.{◌≡◌, ◌<◌, ◌≤◌, map, length, get_or, slice_index_or, slice_set};
-ghost use Rattle.hall.specs.Log.{next_step, running_step, occupies, blank, reached, begin_of};
-ghost use Rattle.hall.specs.Rules.{booked, step_fault};
+ghost use Rattle.std.specs.Prelude.{◌≡◌, ◌<◌, ◌≤◌, map, length, slice_index_or};
+ghost use Rattle.hall.specs.Log.{next_step, running_step, occupies, blank, steps_with, begin_of};
+ghost use Rattle.hall.specs.Rules.{booked, step_fault, unless};
 ghost use Rattle.hall.specs.View.{steps_of, step_in};
 ghost use Rattle.hall.specs.declared.step.Progress.TheVariants.{Running, Done};
+
+use short::Short;
 
 use crate::fault::BoardFault;
 use crate::step::{Progress, Step, StepRecord};
@@ -14,117 +16,101 @@ const LAST_STATION: u32 = 15;
 // The longest step, in minutes.
 const LONGEST_STEP: u32 = 1440;
 
-// The first `len` of the records are the vehicle's steps.
+// A vehicle's steps, in their order.
 #[derive(Clone, Copy)]
 pub struct Vehicle {
-    pub steps: [StepRecord; 8],
-    pub len: usize,
+    pub steps: Short<StepRecord, 8>,
 }
 
 impl Vehicle {
     // The number of the next step to begin, where one is left.
     pub(crate) fn next(&self) -> Option<usize>
-        requires { self.now.len ≤ 8 }
-        ensures { result ≡ step_in self.now.len (next_step (steps_of self.now)) }
+        ensures { result ≡ step_in (length (steps_of self.now)) (next_step (steps_of self.now)) }
     {
-        for i in 0..self.len {
-            let record = self.steps[i];
-            if let Progress::Waiting = record.progress {
-                return Some(i);
-            }
-        }
-        None
+        self.steps
+            .as_slice()
+            .iter()
+            .position(|record| matches!(record.progress, Progress::Waiting))
+    }
+
+    // How many steps of the vehicle are begun.
+    pub(crate) fn begun(&self) -> usize
+        ensures { result ≡ next_step (steps_of self.now) }
+    {
+        self.next().unwrap_or(self.steps.as_slice().len())
     }
 
     // The number of the running step, where one runs.
     pub(crate) fn running(&self) -> Option<usize>
-        requires { self.now.len ≤ 8 }
-        ensures { result ≡ step_in self.now.len (running_step (steps_of self.now)) }
+        ensures { result ≡ step_in (length (steps_of self.now)) (running_step (steps_of self.now)) }
     {
-        for i in 0..self.len {
-            let record = self.steps[i];
-            if let Progress::Running { .. } = record.progress {
-                return Some(i);
-            }
-        }
-        None
+        self.steps
+            .as_slice()
+            .iter()
+            .position(|record| matches!(record.progress, Progress::Running { .. }))
     }
 
     // Whether a step of the vehicle runs on the station.
     pub(crate) fn occupies(&self, station: u32) -> bool
-        requires { self.now.len ≤ 8 }
         ensures { result ≡ occupies station (steps_of self.now) }
     {
-        for i in 0..self.len {
-            let record = self.steps[i];
-            if let Progress::Running { .. } = record.progress {
-                if record.station == station {
-                    return true;
-                }
-            }
-        }
-        false
+        self.steps
+            .as_slice()
+            .iter()
+            .any(|record| matches!(record.progress, Progress::Running { .. }) && record.station == station)
     }
 
     // Writes the begin of step `j`.
     pub(crate) fn start(&mut self, j: usize, minute: u32)
-        requires { j < 8 }
-        ensures len { self.new.len ≡ self.old.len }
-        ensures steps { self.new.steps ≡ slice_set self.old.steps j (reached (slice_index_or self.old.steps j blank) (Running minute)) }
+        requires { j < length (steps_of self.old) }
+        ensures steps { steps_of self.new ≡ steps_with (steps_of self.old) j (Running minute) }
     {
-        self.steps[j].progress = Progress::Running { begin: minute };
+        let record = self.steps.as_slice()[j];
+        let progress = Progress::Running { begin: minute };
+        self.steps.set(j, StepRecord { progress, ..record });
     }
 
     // Writes the end of step `j`.
     pub(crate) fn end(&mut self, j: usize, minute: u32)
-        requires { j < 8 }
-        ensures len { self.new.len ≡ self.old.len }
-        ensures steps { self.new.steps ≡ slice_set self.old.steps j (reached (slice_index_or self.old.steps j blank) (Done (begin_of (get_or self.old.steps j blank).progress) minute)) }
+        requires { j < length (steps_of self.old) }
+        ensures steps { steps_of self.new ≡ steps_with (steps_of self.old) j (Done (begin_of (slice_index_or (steps_of self.old) j blank).progress) minute) }
     {
-        let begin = self.steps[j].progress.begin();
-        self.steps[j].progress = Progress::Done { begin, end: minute };
+        let record = self.steps.as_slice()[j];
+        let begin = record.progress.begin();
+        let progress = Progress::Done { begin, end: minute };
+        self.steps.set(j, StepRecord { progress, ..record });
     }
 
     // The vehicle with these steps, none begun.
     pub(crate) fn booked(steps: &[Step]) -> Vehicle
         requires { length steps.now ≤ 8 }
-        ensures len { result.len ≡ length steps.now }
-        ensures table { length result.steps ≡ 8 }
         ensures steps { steps_of result ≡ map booked steps.now }
     {
-        let blank = StepRecord {
+        let blank = StepRecord::from(Step {
             station: 0,
             length: 0,
-            progress: Progress::Waiting,
-        };
-        let mut records = [blank; 8];
-        for (i, step) in steps.iter().enumerate() {
-            records[i] = StepRecord {
-                station: step.station,
-                length: step.length,
-                progress: Progress::Waiting,
-            };
+        });
+        let mut list = Short::empty(blank);
+        for step in steps {
+            list.push(StepRecord::from(*step));
         }
-        Vehicle {
-            steps: records,
-            len: steps.len(),
-        }
+        Vehicle { steps: list }
     }
 }
 
 // The first fault of a booking's steps, if any.
-pub(crate) fn step_fault(steps: &[Step]) -> Option<BoardFault>
+pub(crate) fn step_fault(steps: &[Step]) -> Result<(), BoardFault>
     requires { length steps.now ≤ 8 }
-    ensures { result ≡ step_fault 0 steps.now }
+    ensures { result ≡ unless (step_fault 0 steps.now) tt }
 {
     for (k, step) in steps.iter().enumerate() {
         if step.station > LAST_STATION {
-            return Some(BoardFault::StationUnknown(k as u32));
+            return Err(BoardFault::StationUnknown(k as u32));
         }
         let length = step.length;
         if length < 1 || length > LONGEST_STEP {
-            return Some(BoardFault::LengthOutside(k as u32));
+            return Err(BoardFault::LengthOutside(k as u32));
         }
     }
-    None
+    Ok(())
 }

@@ -1,14 +1,16 @@
 // The calls of the board.
-ghost use Rattle.std.specs.Prelude.{◌≡◌};
+ghost use Rattle.std.specs.Prelude.{◌≡◌, slice_get};
+ghost use Rattle.std.specs.Option.{option_map};
 ghost use Rattle.hall.specs.Log.{taken, empty_log, vehicle_at, next_step};
 ghost use Rattle.hall.specs.Rules.{enter, begin, finish, pass, begin_answer, finish_answer};
 ghost use Rattle.hall.specs.Hall.{hall_log, fleet_of, Called};
+ghost use Rattle.hall.specs.View.{steps_of};
 ghost use Rattle.hall.specs.Job.{config_of, Begins, Finishes, Passes, Exactly};
 ghost use Rattle.hall.specs.Series.{KeptFromArguments, RunsAsComposed};
 
 use super::Board;
 use crate::fault::BoardFault;
-use crate::step::{Progress, Step, StepRecord};
+use crate::step::Step;
 use crate::vehicle::{Vehicle, step_fault};
 
 // How many vehicles the table takes, and how many steps a vehicle.
@@ -28,17 +30,8 @@ impl Board {
         ensures series { KeptFromArguments result }
         ensures runs { RunsAsComposed result }
     {
-        let record = StepRecord {
-            station: 0,
-            length: 0,
-            progress: Progress::Waiting,
-        };
-        let vehicle = Vehicle {
-            steps: [record; 8],
-            len: 0,
-        };
         Board {
-            vehicles: [vehicle; 24],
+            vehicles: [Vehicle::booked(&[]); 24],
             count: 0,
             minute: 0,
         }
@@ -49,6 +42,13 @@ impl Board {
         ensures value { result.now ≡ fleet_of self.now }
     {
         &self.vehicles[..self.count]
+    }
+
+    // The vehicle of a number, if it is in the hall.
+    fn vehicle(&self, vehicle: u32) -> Option<&Vehicle>
+        ensures { slice_get (hall_log self.now).vehicles vehicle ≡ option_map (λ v. steps_of v.now) result }
+    {
+        self.vehicles().get(vehicle as usize)
     }
 
     // The minute, which is now.
@@ -62,14 +62,7 @@ impl Board {
     pub fn begun(&self, vehicle: u32) -> usize
         ensures value { result ≡ next_step (vehicle_at (hall_log self.now) vehicle) }
     {
-        let v = vehicle as usize;
-        if v >= self.count {
-            return 0;
-        }
-        match self.vehicles[v].next() {
-            Some(next) => next,
-            None => self.vehicles[v].len,
-        }
+        self.vehicle(vehicle).map_or(0, |v| v.begun())
     }
 
     // Adds a vehicle with these steps, and answers its number.
@@ -82,9 +75,7 @@ impl Board {
         if steps.len() < 1 || steps.len() > MOST_STEPS {
             return Err(BoardFault::StepCount);
         }
-        if let Some(fault) = step_fault(steps) {
-            return Err(fault);
-        }
+        step_fault(steps)?;
         let number = self.count;
         self.vehicles[number] = Vehicle::booked(steps);
         self.count = number + 1;
@@ -95,31 +86,19 @@ impl Board {
     fn taken(&self, station: u32) -> bool
         ensures { result ≡ taken station (hall_log self.now).vehicles }
     {
-        for v in 0..self.count {
-            let busy = self.vehicles[v].occupies(station);
-            if busy {
-                return true;
-            }
-        }
-        false
+        self.vehicles().iter().any(|v| v.occupies(station))
     }
 
     // The number of the step that begin starts, or why it does not.
     fn may_begin(&self, vehicle: u32) -> Result<usize, BoardFault>
         ensures { result ≡ begin_answer (hall_log self.now) vehicle }
     {
-        let v = vehicle as usize;
-        if v >= self.count {
-            return Err(BoardFault::VehicleUnknown);
-        }
-        if let Some(_) = self.vehicles[v].running() {
+        let v = self.vehicle(vehicle).ok_or(BoardFault::VehicleUnknown)?;
+        if v.running().is_some() {
             return Err(BoardFault::StepRuns);
         }
-        let Some(next) = self.vehicles[v].next() else {
-            return Err(BoardFault::NoStepLeft);
-        };
-        let station = self.vehicles[v].steps[next].station;
-        if self.taken(station) {
+        let next = v.next().ok_or(BoardFault::NoStepLeft)?;
+        if self.taken(v.steps.as_slice()[next].station) {
             return Err(BoardFault::StationTaken);
         }
         Ok(next)
@@ -132,7 +111,8 @@ impl Board {
     {
         let minute = self.minute;
         let next = self.may_begin(vehicle)?;
-        self.vehicles[vehicle as usize].start(next, minute);
+        let vehicles = &mut self.vehicles;
+        vehicles[vehicle as usize].start(next, minute);
         Ok(next as u32)
     }
 
@@ -140,14 +120,9 @@ impl Board {
     fn may_finish(&self, vehicle: u32) -> Result<usize, BoardFault>
         ensures { result ≡ finish_answer (hall_log self.now) vehicle }
     {
-        let v = vehicle as usize;
-        if v >= self.count {
-            return Err(BoardFault::VehicleUnknown);
-        }
-        let Some(running) = self.vehicles[v].running() else {
-            return Err(BoardFault::NoStepRuns);
-        };
-        let record = self.vehicles[v].steps[running];
+        let v = self.vehicle(vehicle).ok_or(BoardFault::VehicleUnknown)?;
+        let running = v.running().ok_or(BoardFault::NoStepRuns)?;
+        let record = v.steps.as_slice()[running];
         let begin = record.progress.begin();
         let least = record.least_time();
         if self.minute - begin < least {
@@ -163,7 +138,8 @@ impl Board {
     {
         let minute = self.minute;
         let running = self.may_finish(vehicle)?;
-        self.vehicles[vehicle as usize].end(running, minute);
+        let vehicles = &mut self.vehicles;
+        vehicles[vehicle as usize].end(running, minute);
         Ok(running as u32)
     }
 

@@ -1,24 +1,16 @@
-use Rattle.std.proofs.Common.{◌≡◌, true, false, get_or, sym, arith, rules}
+use Rattle.std.proofs.Common.{◌≡◌, rules, tests, sym, ◌∙◌}
+use Rattle.std.specs.List.{list_any}
+use Rattle.std.proofs.lemmas.Iterator.{YieldsList-from_slice}
+use Rattle.std.proofs.lemmas.Iterator.Search.{any_from_yields_List}
+use Rattle.hall.specs.declared.vehicle.Vehicle.{Vehicle}
 use Rattle.hall.specs.Log.{occupies}
 use Rattle.hall.specs.View.{steps_of}
-use Rattle.hall.proofs.Views.{taken_step, taken_ends, bare}
+use Rattle.hall.specs.Hall.{fleet_of}
+use Rattle.hall.proofs.Views.{list_any-map}
 use Rattle.hall.proofs.board.Board.taken.Goals as goal
-
-pub returns-then-busy : goal.returns-then-busy
-returns-then-busy c =
-    let b = c.args.self.now in
-    let step = taken_step _ b.vehicles _ _ bare c.loop-v-test.true (omega (arith, b.few, b.table)) c.loop-v.invariant in
-    let e : occupies c.args.station (steps_of (get_or b.vehicles c.loop-v.v bare)) ≡ true = search rules in
-    sym (simp e at step)
-
-pub loop-v-preserved : goal.loop-v-preserved
-loop-v-preserved c =
-    let b = c.args.self.now in
-    let step = taken_step _ b.vehicles _ _ bare c.loop-v-test.true (omega (arith, b.few, b.table)) c.loop-v.invariant in
-    let e : occupies c.args.station (steps_of (get_or b.vehicles c.loop-v.v bare)) ≡ false = search rules in
-    simp e at step
 
 pub returns : goal.returns
 returns c =
-    let b = c.args.self.now in
-    taken_ends _ _ _ _ (omega (arith, b.few, b.table)) c.loop-v-test.false c.loop-v.invariant
+    any_from_yields_List (λ (w : Vehicle). occupies c.args.station (steps_of w)) _ _ c.any.result c.any.ensures.ran
+    (YieldsList-from_slice (fleet_of c.args.self.now) cc) (λ x b q k. search (rules, tests))
+    ∙ sym (list_any-map (occupies c.args.station) steps_of (fleet_of c.args.self.now))

@@ -1,7 +1,7 @@
-use Rattle.std.proofs.Common.{◌≡◌, map, length, take}
+use Rattle.std.proofs.Common.{◌≡◌, map, take}
 use Rattle.hall.specs.Rules.{booked}
 use Rattle.hall.proofs.vehicle.Vehicle.booked.Given as goal
 
--- the first i records are written
-abbrev pub invariant-loop-i : goal.invariant-loop-i
-invariant-loop-i l = (take l.i l.records ≡ map booked (take l.i l.steps)) × (length l.records ≡ 8)
+-- the steps before this one are booked
+abbrev pub invariant-loop-step : goal.invariant-loop-step
+invariant-loop-step l = l.list.items ≡ map booked (take l.step-index l.steps)
