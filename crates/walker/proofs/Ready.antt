@@ -5,6 +5,7 @@ use Rattle.std.proofs.lemmas.List.{get_or_past}
 use Rattle.hall.specs.Log.{Log, next_step, vehicle_at, begin_of}
 use Rattle.hall.specs.Hall.{hall_log, fleet_of}
 use Rattle.hall.specs.declared.board.Board.{Board}
+use Rattle.hall.specs.View.{steps_of}
 use Rattle.hall.specs.declared.vehicle.Vehicle.{Vehicle}
 use Rattle.hall.proofs.Kept.{kept}
 use Rattle.plans.specs.Steps.{fleet, IsStep, begun_of}
@@ -25,7 +26,7 @@ laws b = log_ok (hall_log b) (kept b)
 fleet_within : (L : Log) (J : List Vehicle) → LogOk L → Tells L J → FleetOk J
 fleet_within L J ok t = record { few = let a = t.all in let b = ok.few in omega arith; each = each }
   where
-    step : (v k : ℕ) → v < length J → k < (vehicle_in J v).len → IsStep L v k
+    step : (v k : ℕ) → v < length J → k < length (steps_of (vehicle_in J v)) → IsStep L v k
     step v k h l = record { known = let a = t.all in omega arith; within = let c = t.counts v h in omega arith }
 
     each : (v : ℕ) → v < length J → RecordOk (vehicle_in J v)
@@ -86,7 +87,6 @@ all_past b v h =
     record {
       low = ok.now_small;
       ok = (fleet_ok b).each v h;
-      sized = t.sized v h;
       begins = λ k l.
           let e = ap begin_of (t.progress v k h l) in
           let c = t.counts v h in
@@ -96,29 +96,26 @@ all_past b v h =
           omega arith;
     }
 
--- one vehicle more, as the code has the board's records, minute and begun steps
-module _ (b : Board) (fleet_read : List Vehicle) (is : fleet_read ≡ fleet_of b) (minute begun v : ℕ) (now : minute ≡ (hall_log b).minute)
-    (front : begun ≡ next_step (vehicle_at (hall_log b) v)) where
-  pub can_stand : v < length fleet_read → Past minute (vehicle_in fleet_read v) × ((v < 24) × (begun ≤ (vehicle_in fleet_read v).len))
+-- one vehicle more, as the code has its record, its begun steps and the minute
+module _ (b : Board) (w : Vehicle) (minute begun v : ℕ) (known : v < length (fleet_of b)) (is : w ≡ vehicle_in (fleet_of b) v)
+    (now : minute ≡ (hall_log b).minute) (front : begun ≡ next_step (vehicle_at (hall_log b) v)) where
+  pub can_stand : Past minute w × (v < 24) × (begun ≤ length (steps_of w))
   unfolding begun_of
-  can_stand h =
-      let size = ap length is in
-      let l : v < length (fleet_of b) = omega arith in
-      let row : vehicle_in fleet_read v ≡ vehicle_in (fleet_of b) v = ap (λ J. vehicle_in J v) is in
+  can_stand =
       let few = (fleet_ok b).few in
-      let c = (tells b).counts v l in
-      let w = root_within (hall_log b) v in
-      let len = ap (λ (x : Vehicle). x.len) row in (
-        subst (λ m. Past m (vehicle_in fleet_read v)) (sym now) (subst (Past (hall_log b).minute) (sym row) (all_past b v l)),
-        (omega arith, omega arith),
+      let c = (tells b).counts v known in
+      let n = root_within (hall_log b) v in
+      let len = ap (λ (x : Vehicle). length (steps_of x)) is in (
+        subst (λ m. Past m w) (sym now) (subst (Past (hall_log b).minute) (sym is) (all_past b v known)),
+        omega arith,
+        omega arith,
       )
 
-  pub stands_more : (p q : Position) → p ≡ stood_upto (hall_log b) (fleet_of b) v → q ≡ stood minute (vehicle_in fleet_read v) v begun p
-      → q ≡ stood_upto (hall_log b) (fleet_of b) (v + 1)
+  pub stands_more : (p q : Position) → p ≡ stood_upto (hall_log b) (fleet_of b) v → q ≡ stood minute w v begun p → q ≡ stood_upto (hall_log b) (fleet_of b) (v + 1)
   unfolding begun_of
   stands_more p q e f =
-      f ∙ ap (λ m. stood m (vehicle_in fleet_read v) v begun p) now
-      ∙ ap (λ J. stood (hall_log b).minute (vehicle_in J v) v begun p) is
+      f ∙ ap (λ m. stood m w v begun p) now
+      ∙ ap (λ x. stood (hall_log b).minute x v begun p) is
       ∙ ap (λ k. stood (hall_log b).minute (vehicle_in (fleet_of b) v) v k p) front
       ∙ ap (stood (hall_log b).minute (vehicle_in (fleet_of b) v) v (next_step (vehicle_at (hall_log b) v))) e
       ∙ ap (stood_upto (hall_log b) (fleet_of b)) (sym (add-one v))

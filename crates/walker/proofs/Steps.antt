@@ -2,6 +2,7 @@
 use Rattle.std.proofs.Common.{◌≡◌, ℕ, zero, suc, ◌+◌, ◌*◌, ◌<◌, ◌≤◌, ◌≢◌, List, length, get_or, set, refl, ap, ◌∙◌, inl, inr, arith, length-set, get_or-set_other, get_or-set_same}
 use Rattle.std.proofs.lemmas.Bool.{cases_eq, cases_lt}
 use Rattle.std.proofs.lemmas.List.{set_past}
+use Rattle.hall.specs.View.{steps_of}
 use Rattle.hall.specs.declared.vehicle.Vehicle.{Vehicle}
 use Rattle.walker.specs.declared.position.Position.{Position}
 use Rattle.walker.specs.Moves.{advanced, begun_in, vehicle_in, next_in, CanMove, FleetOk, Sane, steps_left}
@@ -32,7 +33,7 @@ steps_same J p v b (suc n) h =
     let same = get_or-set_other p.begun v n (begun_in p v + 1) 0 ne in
     omega arith
 
-steps_fewer : (J : List Vehicle) (p : Position) (v b n : ℕ) → v < length p.begun → begun_in p v < (vehicle_in J v).len → v < n →
+steps_fewer : (J : List Vehicle) (p : Position) (v b n : ℕ) → v < length p.begun → begun_in p v < length (steps_of (vehicle_in J v)) → v < n →
     steps_left J (advanced J p v b) n + 1 ≡ steps_left J p n
 steps_fewer J p v b zero within left h = let no : ⊥ = omega arith in absurd no
 steps_fewer J p v b (suc n) within left h =
@@ -40,7 +41,7 @@ steps_fewer J p v b (suc n) within left h =
       | inl e ↦
           let same = steps_same J p v b n (omega arith) in
           let here : get_or (set p.begun v (begun_in p v + 1)) n 0 ≡ begun_in p v + 1 = rw e (get_or-set_same p.begun v (begun_in p v + 1) 0 within) in
-          let cnt : (vehicle_in J n).len ≡ (vehicle_in J v).len = ap (λ k. (vehicle_in J k).len) e in
+          let cnt : length (steps_of (vehicle_in J n)) ≡ length (steps_of (vehicle_in J v)) = ap (λ k. length (steps_of (vehicle_in J k))) e in
           let bg : begun_in p n ≡ begun_in p v = ap (begun_in p) e in
           omega arith
       | inr ne ↦

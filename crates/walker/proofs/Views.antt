@@ -2,12 +2,11 @@
 use Rattle.std.proofs.Common.{◌≡◌, ℕ, zero, suc, ◌+◌, ◌-◌, ◌<◌, ◌≤◌, max, cond, eqb, ltb, ◌⊎◌, List, [], ◌∷◌, ◌++◌, map, length, get_or, set, Some, None, Option, sym, refl, ap, ◌∙◌, subst, inl, inr, arith}
 use mathlib.Core.Path.{fun_ext}
 use Rattle.std.proofs.lemmas.Bool.{cases_eq, cases_lt, cond-true, cond-false, lt-ltb, le-ltb}
-use Rattle.std.proofs.lemmas.List.{get_or-set_same, get_or-set_other, append-nil, append_assoc, map-append, get_or-map, length-map, length-take-le, get_or-take}
+use Rattle.std.proofs.lemmas.List.{get_or-set_same, get_or-set_other, append-nil, append_assoc, map-append, get_or-map, length-map}
 use Rattle.hall.specs.Log.{Log, blank}
 use Rattle.hall.specs.View.{steps_of}
 use Rattle.hall.specs.Hall.{hall_log, fleet_of}
 use Rattle.hall.specs.declared.board.Board.{Board}
-use Rattle.hall.specs.declared.step.StepRecord.{StepRecord}
 use Rattle.hall.specs.declared.vehicle.Vehicle.{Vehicle}
 use Rattle.plans.specs.declared.row.Row.{Row}
 use Rattle.plans.specs.Steps.{fleet, count, station_of, length_of, progress_of}
@@ -45,27 +44,14 @@ pub tells : (b : Board) → Tells (hall_log b) (fleet_of b)
 unfolding fleet count station_of length_of progress_of
 tells b = record {
   all = length-map (fleet_of b) steps_of;
-  counts = λ v h. ap length (row v h) ∙ length-take-le _ _ (sized v h);
-  stations = λ v k h l. ap (λ ss. (get_or ss k blank).station) (row v h) ∙ ap (λ (s : StepRecord). s.station) (get_or-take _ _ k blank l);
-  lengths = λ v k h l. ap (λ ss. (get_or ss k blank).length) (row v h) ∙ ap (λ (s : StepRecord). s.length) (get_or-take _ _ k blank l);
-  progress = λ v k h l. ap (λ ss. (get_or ss k blank).progress) (row v h) ∙ ap (λ (s : StepRecord). s.progress) (get_or-take _ _ k blank l);
-  sized = sized;
+  counts = λ v h. ap length (row v h);
+  stations = λ v k h l. ap (λ ss. (get_or ss k blank).station) (row v h);
+  lengths = λ v k h l. ap (λ ss. (get_or ss k blank).length) (row v h);
+  progress = λ v k h l. ap (λ ss. (get_or ss k blank).progress) (row v h);
 }
   where
     row : (v : ℕ) → v < length (fleet_of b) → get_or (map steps_of (fleet_of b)) v [] ≡ steps_of (vehicle_in (fleet_of b) v)
     row v h = get_or-map steps_of (fleet_of b) v no_vehicle [] h
-
-    sized : (v : ℕ) → v < length (fleet_of b) → (vehicle_in (fleet_of b) v).len ≤ length (vehicle_in (fleet_of b) v).steps
-    sized v h =
-        let few = b.few in
-        let size = b.table in
-        let n = length-take-le b.count b.vehicles (omega arith) in
-        let at = get_or-take b.count b.vehicles v no_vehicle (omega arith) in
-        let a = ap (λ (w : Vehicle). w.len) at in
-        let c = ap (λ (w : Vehicle). length w.steps) at in
-        let e = b.counted v no_vehicle (omega arith) in
-        let f = b.filled v no_vehicle (omega arith) in
-        omega arith
 
 module _ (L : Log) (J : List Vehicle) (t : Tells L J) (p : Position) (rs : List Row) where
   abbrev P : Place
@@ -172,7 +158,7 @@ module _ (L : Log) (J : List Vehicle) (t : Tells L J) (p : Position) (rs : List 
       let c = t.counts v h in
       let i = lengths_are v h m (suc k) (omega arith) in
       let one : k + 1 ≡ suc k = omega arith in
-      let f = left_more (vehicle_in J v) k (omega arith) (t.sized v h) in
+      let f = left_more (vehicle_in J v) k (omega arith) in
       let g = ap (lengths_left (vehicle_in J v)) one in
       let l = t.lengths v k h (omega arith) in
       omega arith
@@ -206,7 +192,7 @@ module _ (L : Log) (J : List Vehicle) (t : Tells L J) (p : Position) (rs : List 
       sums_none : 0 ≡ sum_below 0 (λ v. count L v - begun_in p v)
       sums_none = refl
 
-      sums_more : (n : ℕ) → count L n ≡ (vehicle_in J n).len → steps_left J p n ≡ sum_below n (λ v. count L v - begun_in p v) → steps_left J p n + ((vehicle_in J n).len - begun_in p n) ≡ sum_below n (λ v. count L v - begun_in p v) + (count L n - begun_in p n)
+      sums_more : (n : ℕ) → count L n ≡ length (steps_of (vehicle_in J n)) → steps_left J p n ≡ sum_below n (λ v. count L v - begun_in p v) → steps_left J p n + (length (steps_of (vehicle_in J n)) - begun_in p n) ≡ sum_below n (λ v. count L v - begun_in p v) + (count L n - begun_in p n)
       sums_more n c i = omega arith
 
       upto : (n : ℕ) → n ≤ length J → steps_left J p n ≡ sum_below n (λ v. count L v - begun_in p v)

@@ -1,6 +1,7 @@
 -- What the code's positions and vehicles stand for in the walk over the hall log.
-use Rattle.std.specs.Prelude.{◌≡◌, ℕ, ◌<◌, ◌≤◌, List, [], length, slice_index}
+use Rattle.std.specs.Prelude.{◌≡◌, ℕ, ◌<◌, List, [], length, slice_index}
 use Rattle.hall.specs.Log.{Log}
+use Rattle.hall.specs.View.{steps_of}
 use Rattle.hall.specs.declared.vehicle.Vehicle.{Vehicle}
 use Rattle.plans.specs.declared.row.Row.{Row}
 use Rattle.plans.specs.Steps.{fleet, count, station_of, length_of, progress_of}
@@ -31,11 +32,10 @@ pub record Fits (p : Position) : Type 0 where
 -- the records are the log's vehicles
 pub record Tells (L : Log) (J : List Vehicle) : Type 0 where
   pub all : fleet L ≡ length J
-  pub counts : (v : ℕ) → v < length J → count L v ≡ (vehicle_in J v).len
-  pub stations : (v k : ℕ) → v < length J → k < (vehicle_in J v).len → station_of L v k ≡ (step_in (vehicle_in J v) k).station
-  pub lengths : (v k : ℕ) → v < length J → k < (vehicle_in J v).len → length_of L v k ≡ (step_in (vehicle_in J v) k).length
-  pub progress : (v k : ℕ) → v < length J → k < (vehicle_in J v).len → progress_of L v k ≡ (step_in (vehicle_in J v) k).progress
-  pub sized : (v : ℕ) → v < length J → (vehicle_in J v).len ≤ length (vehicle_in J v).steps
+  pub counts : (v : ℕ) → v < length J → count L v ≡ length (steps_of (vehicle_in J v))
+  pub stations : (v k : ℕ) → v < length J → k < length (steps_of (vehicle_in J v)) → station_of L v k ≡ (step_in (vehicle_in J v) k).station
+  pub lengths : (v k : ℕ) → v < length J → k < length (steps_of (vehicle_in J v)) → length_of L v k ≡ (step_in (vehicle_in J v) k).length
+  pub progress : (v k : ℕ) → v < length J → k < length (steps_of (vehicle_in J v)) → progress_of L v k ≡ (step_in (vehicle_in J v) k).progress
 
 -- the root position of the log
 pub record RootOf (L : Log) (p : Position) : Type 0 where

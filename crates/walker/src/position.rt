@@ -2,12 +2,14 @@
 ghost use Rattle.std.specs.Prelude.{◌≡◌, ◌<◌, ◌≤◌, map, length};
 ghost use Rattle.std.specs.List.{range_with_len};
 ghost use Rattle.goals.specs.Finishes.{scored};
+ghost use Rattle.hall.specs.View.{steps_of};
 ghost use Rattle.plans.specs.Meanings.{hours_of};
 ghost use Rattle.walker.specs.Moves.{FleetOk, RecordOk, Sane, BegunWithin, CanMove, begin_in, advanced, row_in, steps_left};
-ghost use Rattle.walker.specs.Bounds.{lengths_left, finish_in};
+ghost use Rattle.walker.specs.Bounds.{total_length, finish_by, finish_in};
 
 use crate::setting::Setting;
 use goals::{Goal, score_of};
+use hall::step::StepRecord;
 use hall::vehicle::Vehicle;
 use hours::{Hours, least_begin};
 use plans::row::Row;
@@ -23,18 +25,13 @@ pub struct Position {
     pub clock: u32,
 }
 
-// The lengths of the vehicle's steps from `k` on.
-fn lengths_left(vehicle: &Vehicle, k: usize) -> u32
-    requires record { RecordOk vehicle.now }
-    requires within { k ≤ vehicle.now.len }
-    ensures sum { result ≡ lengths_left vehicle.now k }
+// The lengths of the steps together.
+fn total_length(steps: &[StepRecord]) -> u32
+    requires { total_length steps.now ≤ 11520 }
+    ensures sum { result ≡ total_length steps.now }
     ensures small { result ≤ 11520 }
 {
-    let mut sum: u32 = 0;
-    for i in k..vehicle.len {
-        sum += vehicle.steps[i].length;
-    }
-    sum
+    steps.iter().map(|step| step.length).sum()
 }
 
 impl Position {
@@ -43,12 +40,7 @@ impl Position {
         requires { v < length by.now.fleet.now }
         ensures value { result ≡ begin_in (hours_of (H.Hours.permits by.now.hours.now)).earliest by.now.fleet.now self.now v }
     {
-        let vehicle = by.fleet[v];
-        let k = self.begun[v] as usize;
-        if k >= vehicle.len {
-            return None;
-        }
-        let step = vehicle.steps[k];
+        let step = by.fleet[v].steps.as_slice().get(self.begun[v] as usize)?;
         let free = self.stations[step.station as usize];
         let from = self.clock.max(self.vehicles[v]).max(free);
         least_begin(by.hours, step.station, from, step.length)
@@ -60,7 +52,7 @@ impl Position {
         ensures value { self.new ≡ advanced fleet.now self.old v begin }
     {
         let k = self.begun[v];
-        let step = fleet[v].steps[k as usize];
+        let step = fleet[v].steps.as_slice()[k as usize];
         let end = begin + step.length;
         self.begun[v] = k + 1;
         self.vehicles[v] = end;
@@ -74,7 +66,7 @@ impl Position {
         ensures value { result ≡ row_in fleet.now self.now v begin }
     {
         let k = self.begun[v];
-        let step = fleet[v].steps[k as usize];
+        let step = fleet[v].steps.as_slice()[k as usize];
         Row {
             vehicle: v as u32,
             step: k,
@@ -85,17 +77,17 @@ impl Position {
     }
 
     // The least minute at which the vehicle can finish.
-    fn finish_of(&self, fleet: &[Vehicle], v: usize) -> u32
-        requires known { v < length fleet.now }
-        requires fleet { FleetOk fleet.now }
+    fn finish_of(&self, vehicle: &Vehicle, v: usize) -> u32
+        requires known { v < 24 }
+        requires record { RecordOk vehicle.now }
         requires sane { Sane self.now }
-        ensures value { result ≡ finish_in fleet.now self.now v }
+        ensures value { result ≡ finish_by vehicle.now self.now v }
         ensures small { result ≤ 2020000 }
     {
         let k = self.begun[v] as usize;
-        let vehicle = &fleet[v];
-        if k < vehicle.len {
-            self.clock.max(self.vehicles[v]) + lengths_left(vehicle, k)
+        let steps = vehicle.steps.as_slice();
+        if k < steps.len() {
+            self.clock.max(self.vehicles[v]) + total_length(&steps[k..])
         } else {
             self.vehicles[v]
         }
@@ -107,8 +99,8 @@ impl Position {
         ensures value { result ≡ scored (G.Goal.adding by.now.goal.now) (G.Goal.starting by.now.goal.now) (map (finish_in by.now.fleet.now self.now) (range_with_len 0 (length by.now.fleet.now))) }
     {
         let mut finishes: Short<u32, 24> = Short::empty(0);
-        for v in 0..by.fleet.len() {
-            finishes.push(self.finish_of(by.fleet, v));
+        for (v, vehicle) in by.fleet.iter().enumerate() {
+            finishes.push(self.finish_of(vehicle, v));
         }
         score_of(by.goal, finishes.as_slice())
     }
@@ -120,8 +112,8 @@ impl Position {
         ensures value { result ≡ steps_left fleet.now self.now (length fleet.now) }
     {
         let mut sum: usize = 0;
-        for v in 0..fleet.len() {
-            sum += fleet[v].len - self.begun[v] as usize;
+        for (v, vehicle) in fleet.iter().enumerate() {
+            sum += vehicle.steps.as_slice().len() - self.begun[v] as usize;
         }
         sum
     }

@@ -1,6 +1,8 @@
-use Rattle.std.proofs.Common.{◌++◌, [], ◌∷◌, length, ap, ◌∙◌, sym, arith, below_more}
+use Rattle.std.proofs.Common.{◌≡◌, refl, ◌++◌, [], ◌∷◌, length, ap, ◌∙◌, sym, arith, below_more}
 use Rattle.std.proofs.lemmas.List.FromFn.{map-range_with_len_more, length-map-range_with_len, get_or-map-range_with_len}
-use Rattle.walker.specs.Bounds.{finish_in}
+use Rattle.std.proofs.lemmas.List.{get_or_read_under}
+use Rattle.walker.specs.Moves.{no_vehicle}
+use Rattle.walker.specs.Bounds.{finish_by, finish_in}
 use Rattle.walker.proofs.position.Position.bound.Goals as goal
 
 pub push-requires : goal.push-requires
@@ -12,7 +14,8 @@ pub loop-v-preserved : goal.loop-v-preserved
 loop-v-preserved g c =
     let f = finish_in c.args.by.now.fleet.now c.args.self.now in
     let v = c.loop-v.v in
-    let e = c.finish_of.ensures.value in (
+    let at = get_or_read_under c.args.by.now.fleet.now v _ c.vehicle-item.result no_vehicle c.vehicle-item.is c.loop-v-test.true refl in
+    let e : c.finish_of.result ≡ f v = c.finish_of.ensures.value ∙ ap (λ w. finish_by w c.args.self.now v) at in (
       c.push.ensures.items
           ∙ ap (λ xs. xs ++ c.finish_of.result ∷ []) c.loop-v.invariant.0
           ∙ rw e (sym (map-range_with_len_more f 0 v v (omega arith))),
