@@ -23,7 +23,6 @@ use Rattle.walker.proofs.Views.{all_is, bound_is, leaf_is}
 -- children keep the arrays' sizes
 advanced_fits : (J : List Vehicle) (p : Position) (v b : ℕ) → Fits p → Fits (advanced J p v b)
 advanced_fits J p v b f = record {
-  begun = length-set p.begun v _ ∙ f.begun;
   vehicles = length-set p.vehicles v _ ∙ f.vehicles;
   stations = length-set p.stations (next_in J p v).station _ ∙ f.stations;
 }

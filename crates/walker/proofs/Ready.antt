@@ -60,7 +60,7 @@ root_sane b p ro =
       free = λ v.
           let e = ap (λ (P : Place). P.free_vehicle v) ro.is in
           elim (cases_lt v (fleet L)) [ inl l ↦ (let c = small.free v l in omega arith) | inr l ↦ (let c = root_free L v l in omega arith) ];
-      sized = ro.fits.begun;
+      sized = ro.fits.vehicles;
     }
 
 begun_root : (L : Log) (v : ℕ) → (root L).begun v ≡ begun_of L v
@@ -76,7 +76,7 @@ root_begun_within b p ro = record {
       let w = root_within L v in
       let c = (tells b).counts v h in
       omega arith;
-  sized = ro.fits.begun;
+  sized = ro.fits.vehicles;
 }
 
 -- what is recorded of a vehicle is past

@@ -18,22 +18,27 @@ use Rattle.plans.specs.Walk.{children as all-children}
 use Rattle.plans.proofs.Base.{put_at, put_other}
 use Rattle.plans.proofs.Scores.{same_score}
 use Rattle.walker.specs.declared.position.Position.{Position}
-use Rattle.walker.specs.Moves.{steps_left, no_vehicle, vehicle_in, begun_in, next_in, has_step, from_minute, begin_in, row_in, FleetOk}
+use Rattle.walker.specs.declared.position.Standing.{Standing}
+use Rattle.walker.specs.Moves.{no_standing, free_in, steps_left, no_vehicle, vehicle_in, begun_in, next_in, has_step, from_minute, begin_in, row_in, FleetOk}
 use Rattle.walker.specs.Bounds.{lengths_left, finish_in, bound_in}
 use Rattle.walker.specs.Trail.{child, child_by, children, children_from}
 use Rattle.walker.specs.View.{table, place, view, view_due, Fits, Tells}
 use Rattle.walker.proofs.Sums.{left_more, left_none}
 
--- a write to the array is a write to the function
-pub write_is_put : (xs : List ℕ) (i x : ℕ) → i < length xs → table (set xs i x) ≡ put (table xs) i x
-write_is_put xs i x h = fun_ext each
+-- a write to the array is a write to the function that reads a part of its elements
+pub write_is_put : {X : Type 0} (part : X → ℕ) (xs : List X) (i : ℕ) (x d : X) → i < length xs
+    → (λ j. part (get_or (set xs i x) j d)) ≡ put (λ j. part (get_or xs j d)) i (part x)
+write_is_put {X} part xs i x d h = fun_ext each
   where
-    each : (j : ℕ) → table (set xs i x) j ≡ put (table xs) i x j
+    read : List X → ℕ → ℕ
+    read ys j = part (get_or ys j d)
+
+    each : (j : ℕ) → read (set xs i x) j ≡ put (read xs) i (part x) j
     each j = by (cases_eq i j)
       where
-        by : (i ≡ j) ⊎ (i ≡ j → ⊥) → table (set xs i x) j ≡ put (table xs) i x j
-        by (inl e) = subst (λ u. table (set xs i x) u ≡ x) e (get_or-set_same xs i x 0 h) ∙ sym (put_at (table xs) i j x e)
-        by (inr d) = get_or-set_other xs i j x 0 (λ y. d (sym y)) ∙ sym (put_other (table xs) i j x d)
+        by : (i ≡ j) ⊎ (i ≡ j → ⊥) → read (set xs i x) j ≡ put (read xs) i (part x) j
+        by (inl e) = subst (λ u. read (set xs i x) u ≡ part x) e (ap part (get_or-set_same xs i x d h)) ∙ sym (put_at (read xs) i j (part x) e)
+        by (inr n) = ap part (get_or-set_other xs i j x d (λ y. n (sym y))) ∙ sym (put_other (read xs) i j (part x) n)
 
 pub same_place : (a a' b b' s s' : ℕ → ℕ) (c c' : ℕ) (rs rs' : List Row) → a ≡ a' → b ≡ b' → s ≡ s' → c ≡ c' → rs ≡ rs' → place a b s c rs ≡ place a' b' s' c' rs'
 same_place a a' b b' s s' c c' rs rs' e f g h i =
@@ -93,15 +98,15 @@ module _ (L : Log) (J : List Vehicle) (t : Tells L J) (p : Position) (rs : List 
       let es = station_is v h l in
       let en = len_is v h l in
       let low = (ok.each v h).stations (begun_in p v) (omega arith) in
-      let fb = fits.begun in
       let ff = fits.vehicles in
       let fs = fits.stations in
+      let now : Standing = record { begun = begun_in p v + 1; free = b + n } in
       let one : begun_in p v + 1 ≡ suc (begun_in p v) = omega arith in
       let en' : b + n ≡ b + length_of L v (begun_in p v) = ap (λ m. b + m) (sym en) in
       same_place _ _ _ _ _ _ _ _ _ _
-      (write_is_put p.begun v (begun_in p v + 1) (omega arith) ∙ ap (put (table p.begun) v) one)
-      (write_is_put p.vehicles v (b + n) (omega arith) ∙ ap (put (table p.vehicles) v) en')
-      (write_is_put p.stations s (b + n) (omega arith) ∙ ap (λ u. put (table p.stations) u (b + n)) (sym es) ∙ ap (put (table p.stations) (station_of L v (begun_in p v))) en')
+      (write_is_put (λ (s : Standing). s.begun) p.vehicles v now no_standing (omega arith) ∙ ap (put (begun_in p) v) one)
+      (write_is_put (λ (s : Standing). s.free) p.vehicles v now no_standing (omega arith) ∙ ap (put (free_in p) v) en')
+      (write_is_put (λ m. m) p.stations s (b + n) 0 (omega arith) ∙ ap (λ u. put (table p.stations) u (b + n)) (sym es) ∙ ap (put (table p.stations) (station_of L v (begun_in p v))) en')
       refl
       (ap (λ (r : Row). rs ++ (r ∷ [])) (same_row v b h l))
     where
@@ -169,11 +174,11 @@ module _ (L : Log) (J : List Vehicle) (t : Tells L J) (p : Position) (rs : List 
       let c = t.counts v h in
       by (cases_lt (begun_in p v) (count L v))
     where
-      by : (begun_in p v < count L v) ⊎ (count L v ≤ begun_in p v) → finish_in J p v ≡ cond (ltb (begun_in p v) (count L v)) (max p.clock (table p.vehicles v) + lengths L v (begun_in p v) (count L v - begun_in p v)) (table p.vehicles v)
+      by : (begun_in p v < count L v) ⊎ (count L v ≤ begun_in p v) → finish_in J p v ≡ cond (ltb (begun_in p v) (count L v)) (max p.clock (free_in p v) + lengths L v (begun_in p v) (count L v - begun_in p v)) (free_in p v)
       by (inl l) =
           let c = t.counts v h in
           let e = lengths_are v h (count L v - begun_in p v) (begun_in p v) (omega arith) in
-          cond-true (has_step J p v) _ _ (lt-ltb _ _ (omega arith)) ∙ ap (λ n. max p.clock (table p.vehicles v) + n) e ∙ sym (cond-true (ltb (begun_in p v) (count L v)) _ _ (lt-ltb _ _ l))
+          cond-true (has_step J p v) _ _ (lt-ltb _ _ (omega arith)) ∙ ap (λ n. max p.clock (free_in p v) + n) e ∙ sym (cond-true (ltb (begun_in p v) (count L v)) _ _ (lt-ltb _ _ l))
       by (inr l) =
           let c = t.counts v h in
           cond-false (has_step J p v) _ _ (le-ltb _ _ (omega arith)) ∙ sym (cond-false (ltb (begun_in p v) (count L v)) _ _ (le-ltb _ _ l))

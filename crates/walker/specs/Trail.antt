@@ -35,7 +35,7 @@ Found E J f (Some m) = CanMove J f.at m.vehicle m.begin ×
     ((rs : List Row) → children_from E J f.at rs f.next ≡ child J f.at rs m.vehicle m.begin ∷ children_from E J f.at rs (m.vehicle + 1))
 
 abbrev pub no_position : Position
-no_position = record { begun = []; vehicles = []; stations = []; clock = 0 }
+no_position = record { vehicles = []; stations = []; clock = 0 }
 
 abbrev pub no_frame : Frame
 no_frame = record { at = no_position; next = 0 }

@@ -7,7 +7,7 @@ use Rattle.plans.specs.declared.row.Row.{Row}
 use Rattle.plans.specs.Steps.{fleet, count, station_of, length_of, progress_of}
 use Rattle.plans.specs.Position.{Position as Place, root}
 use Rattle.walker.specs.declared.position.Position.{Position}
-use Rattle.walker.specs.Moves.{vehicle_in, step_in}
+use Rattle.walker.specs.Moves.{vehicle_in, step_in, begun_in, free_in}
 use Rattle.walker.specs.Trail.{Due}
 
 abbrev pub table : List ℕ → ℕ → ℕ
@@ -18,14 +18,13 @@ place b v s c rs = record { begun = b; free_vehicle = v; free_station = s; clock
 
 -- the place of a position reached by the rows
 abbrev pub view : Position → List Row → Place
-view p rs = place (table p.begun) (table p.vehicles) (table p.stations) p.clock rs
+view p rs = place (begun_in p) (free_in p) (table p.stations) p.clock rs
 
 abbrev pub view_due : Due → Place
 view_due d = view d.at d.rows
 
 -- the arrays have their sizes
 pub record Fits (p : Position) : Type 0 where
-  pub begun : length p.begun ≡ 24
   pub vehicles : length p.vehicles ≡ 24
   pub stations : length p.stations ≡ 16
 

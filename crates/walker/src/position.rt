@@ -15,12 +15,17 @@ use hours::{Hours, least_begin};
 use plans::row::Row;
 use short::Short;
 
-// For each vehicle the begun steps and the minute from which it is free, for each station the minute from which it is
-// free, and the clock.
+// Where a vehicle stands: how many of its steps are begun, and the minute from which it is free.
+#[derive(Clone, Copy)]
+pub struct Standing {
+    pub begun: usize,
+    pub free: u32,
+}
+
+// Where each vehicle stands, for each station the minute from which it is free, and the clock.
 #[derive(Clone, Copy)]
 pub struct Position {
-    pub begun: [u32; 24],
-    pub vehicles: [u32; 24],
+    pub vehicles: [Standing; 24],
     pub stations: [u32; 16],
     pub clock: u32,
 }
@@ -40,9 +45,10 @@ impl Position {
         requires { v < length by.now.fleet.now }
         ensures value { result ≡ begin_in (hours_of (H.Hours.permits by.now.hours.now)).earliest by.now.fleet.now self.now v }
     {
-        let step = by.fleet[v].steps.as_slice().get(self.begun[v] as usize)?;
+        let standing = self.vehicles[v];
+        let step = by.fleet[v].steps.as_slice().get(standing.begun)?;
         let free = self.stations[step.station as usize];
-        let from = self.clock.max(self.vehicles[v]).max(free);
+        let from = self.clock.max(standing.free).max(free);
         least_begin(by.hours, step.station, from, step.length)
     }
 
@@ -51,11 +57,13 @@ impl Position {
         requires { CanMove fleet.now self.old v begin }
         ensures value { self.new ≡ advanced fleet.now self.old v begin }
     {
-        let k = self.begun[v];
-        let step = fleet[v].steps.as_slice()[k as usize];
+        let k = self.vehicles[v].begun;
+        let step = fleet[v].steps.as_slice()[k];
         let end = begin + step.length;
-        self.begun[v] = k + 1;
-        self.vehicles[v] = end;
+        self.vehicles[v] = Standing {
+            begun: k + 1,
+            free: end,
+        };
         self.stations[step.station as usize] = end;
         self.clock = begin;
     }
@@ -65,11 +73,11 @@ impl Position {
         requires { CanMove fleet.now self.now v begin }
         ensures value { result ≡ row_in fleet.now self.now v begin }
     {
-        let k = self.begun[v];
-        let step = fleet[v].steps.as_slice()[k as usize];
+        let k = self.vehicles[v].begun;
+        let step = fleet[v].steps.as_slice()[k];
         Row {
             vehicle: v as u32,
-            step: k,
+            step: k as u32,
             station: step.station,
             begin,
             end: begin + step.length,
@@ -84,12 +92,12 @@ impl Position {
         ensures value { result ≡ finish_by vehicle.now self.now v }
         ensures small { result ≤ 2020000 }
     {
-        let k = self.begun[v] as usize;
+        let standing = self.vehicles[v];
         let steps = vehicle.steps.as_slice();
-        if k < steps.len() {
-            self.clock.max(self.vehicles[v]) + total_length(&steps[k..])
+        if standing.begun < steps.len() {
+            self.clock.max(standing.free) + total_length(&steps[standing.begun..])
         } else {
-            self.vehicles[v]
+            standing.free
         }
     }
 
@@ -113,7 +121,7 @@ impl Position {
     {
         let mut sum: usize = 0;
         for (v, vehicle) in fleet.iter().enumerate() {
-            sum += vehicle.steps.as_slice().len() - self.begun[v] as usize;
+            sum += vehicle.steps.as_slice().len() - self.vehicles[v].begun;
         }
         sum
     }

@@ -8,7 +8,7 @@ ghost use Rattle.plans.specs.Position.{runs_until};
 ghost use Rattle.walker.specs.Roots.{stood, Past};
 ghost use Rattle.walker.specs.View.{RootOf};
 
-use crate::position::Position;
+use crate::position::{Position, Standing};
 use hall::board::Board;
 use hall::step::{Progress, StepRecord};
 use hall::vehicle::Vehicle;
@@ -45,13 +45,15 @@ fn stand(position: &mut Position, vehicle: &Vehicle, v: usize, begun: usize, min
     requires within { begun ≤ length (steps_of vehicle.now) }
     ensures value { position.new ≡ stood minute vehicle.now v begun position.old }
 {
-    position.begun[v] = begun as u32;
-    if begun > 0 {
-        let step = vehicle.steps.as_slice()[begun - 1];
-        let station = step.station as usize;
-        position.vehicles[v] = end_of(step, minute);
-        position.stations[station] = position.stations[station].max(runs_until(step, minute));
+    if begun == 0 {
+        position.vehicles[v].begun = 0;
+        return;
     }
+    let step = vehicle.steps.as_slice()[begun - 1];
+    let station = step.station as usize;
+    let free = end_of(step, minute);
+    position.vehicles[v] = Standing { begun, free };
+    position.stations[station] = position.stations[station].max(runs_until(step, minute));
 }
 
 // Every vehicle in its place, and the clock at now.
@@ -61,8 +63,7 @@ pub fn root_of(board: &Board) -> Position
     let minute = board.minute();
     let fleet = board.vehicles();
     let mut position = Position {
-        begun: [0; 24],
-        vehicles: [0; 24],
+        vehicles: [Standing { begun: 0, free: 0 }; 24],
         stations: [0; 16],
         clock: minute,
     };
