@@ -1,6 +1,6 @@
 -- Positions of the walk: the root of a log, the move of a vehicle, the bound, and runs of moves that begin each step as
 -- soon as the position allows.
-use Rattle.std.specs.Prelude.{◌≡◌, ℕ, zero, suc, ◌+◌, ◌-◌, ◌<◌, max, Bool, List, [], ◌∷◌, ◌++◌, Some, None, Option, if◌then◌else◌, ◌==◌, nat_lt}
+use Rattle.std.specs.Prelude.{option_map, ◌≡◌, ℕ, zero, suc, ◌+◌, ◌-◌, ◌<◌, max, Bool, List, [], ◌∷◌, ◌++◌, Some, None, Option, if◌then◌else◌, ◌==◌, nat_lt}
 use Rattle.hall.specs.Log.{Log}
 use Rattle.hall.specs.declared.step.Progress.{Progress}
 use Rattle.hall.specs.declared.step.Progress.TheVariants.{Waiting, Running, Done}
@@ -79,15 +79,11 @@ moved L P v b = record {
   rows = P.rows ++ (row_of L P v b ∷ []);
 }
 
-unfoldable pub map_option : {A B : Type 0} → (A → B) → Option A → Option B
-map_option f None = None
-map_option f (Some a) = Some (f a)
-
 -- the move of vehicle v, if it has a step left and the hours permit a begin
 unfoldable pub move : Hours → Log → Position → ℕ → Option Position
 move H L P v =
     if nat_lt (P.begun v) (count L v)
-    then map_option (moved L P v) (H.earliest (station_of L v (P.begun v)) (ready L P v) (length_of L v (P.begun v)))
+    then option_map (moved L P v) (H.earliest (station_of L v (P.begun v)) (ready L P v) (length_of L v (P.begun v)))
     else None
 
 -- how many steps are left to begin, and whether none is

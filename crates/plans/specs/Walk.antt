@@ -1,18 +1,14 @@
 -- The walk over positions, as a machine of single visits.
-use Rattle.std.specs.Prelude.{◌≡◌, ℕ, zero, suc, ◌+◌, ◌^◌, ◌<◌, Bool, false, List, [], ◌∷◌, ◌++◌, Some, None, Option, if◌then◌else◌, ◌≢◌}
+use Rattle.std.specs.Prelude.{option_to_list, ◌≡◌, ℕ, zero, suc, ◌+◌, ◌^◌, ◌<◌, Bool, false, List, [], ◌∷◌, ◌++◌, Some, None, Option, if◌then◌else◌, ◌≢◌}
 use Rattle.hall.specs.Log.{Log}
 use Rattle.plans.specs.Steps.{fleet}
 use Rattle.plans.specs.Meanings.{Hours, Goal}
 use Rattle.plans.specs.Position.{Position, sum_below, root, move, left, is_leaf, bound}
 
-unfoldable pub list_of : {A : Type 0} → Option A → List A
-list_of None = []
-list_of (Some a) = a ∷ []
-
 -- the children of a position by the vehicles 0 to n - 1, in that order
 unfoldable pub children_below : Hours → Log → Position → ℕ → List Position
 children_below H L P zero = []
-children_below H L P (suc n) = children_below H L P n ++ list_of (move H L P n)
+children_below H L P (suc n) = children_below H L P n ++ option_to_list (move H L P n)
 
 unfoldable pub children : Hours → Log → Position → List Position
 children H L P = children_below H L P (fleet L)

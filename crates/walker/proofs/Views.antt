@@ -1,5 +1,5 @@
 -- Moves, children and bounds of the code are those of the walk.
-use Rattle.std.proofs.Common.{◌≡◌, ℕ, zero, suc, ◌+◌, ◌-◌, ◌<◌, ◌≤◌, max, cond, eqb, ltb, ◌⊎◌, List, [], ◌∷◌, ◌++◌, map, length, get_or, set, Some, None, Option, sym, refl, ap, ◌∙◌, subst, inl, inr, arith}
+use Rattle.std.proofs.Common.{option_map, option_to_list, ◌≡◌, ℕ, zero, suc, ◌+◌, ◌-◌, ◌<◌, ◌≤◌, max, cond, eqb, ltb, ◌⊎◌, List, [], ◌∷◌, ◌++◌, map, length, get_or, set, Some, None, Option, sym, refl, ap, ◌∙◌, subst, inl, inr, arith}
 use mathlib.Core.Path.{fun_ext}
 use Rattle.std.proofs.lemmas.Bool.{cases_eq, cases_lt, cond-true, cond-false, lt-ltb, le-ltb}
 use Rattle.std.proofs.lemmas.List.{get_or-set_same, get_or-set_other, append-nil, append_assoc, map-append, get_or-map, length-map}
@@ -12,8 +12,8 @@ use Rattle.plans.specs.declared.row.Row.{Row}
 use Rattle.plans.specs.Steps.{fleet, count, station_of, length_of, progress_of}
 use Rattle.plans.specs.Meanings.{Hours, Goal, score_of}
 use Rattle.plans.specs.Plan.{put}
-use Rattle.plans.specs.Position.{Position as Place, sum_below, ready, row_of, moved, map_option, move, left, is_leaf, lengths, bound_finish, bound}
-use Rattle.plans.specs.Walk.{list_of, children_below}
+use Rattle.plans.specs.Position.{Position as Place, sum_below, ready, row_of, moved, move, left, is_leaf, lengths, bound_finish, bound}
+use Rattle.plans.specs.Walk.{children_below}
 use Rattle.plans.specs.Walk.{children as all-children}
 use Rattle.plans.proofs.Base.{put_at, put_other}
 use Rattle.plans.proofs.Scores.{same_score}
@@ -116,22 +116,22 @@ module _ (L : Log) (J : List Vehicle) (t : Tells L J) (p : Position) (rs : List 
           ∙ ap (λ n. record { vehicle = v; step = begun_in p v; station = station_of L v (begun_in p v); begin = b; end = b + n }) (sym (len_is v h l))
 
   -- the children by one vehicle, and by all
-  pub child_is : (H : Hours) → FleetOk J → Fits p → (v : ℕ) → v < length J → map view_due (child_by J p rs v (begin_in H.earliest J p v)) ≡ list_of (move H L P v)
-  unfolding move list_of map_option
+  pub child_is : (H : Hours) → FleetOk J → Fits p → (v : ℕ) → v < length J → map view_due (child_by J p rs v (begin_in H.earliest J p v)) ≡ option_to_list (move H L P v)
+  unfolding move
   child_is H ok fits v h = by (cases_lt (begun_in p v) (count L v))
     where
-      each : (o : Option ℕ) → begun_in p v < count L v → map view_due (child_by J p rs v o) ≡ list_of (map_option (moved L P v) o)
+      each : (o : Option ℕ) → begun_in p v < count L v → map view_due (child_by J p rs v o) ≡ option_to_list (option_map (moved L P v) o)
       each None l = refl
       each (Some b) l = ap (λ (x : Place). x ∷ []) (moved_is ok fits v b h l)
 
-      by : (begun_in p v < count L v) ⊎ (count L v ≤ begun_in p v) → map view_due (child_by J p rs v (begin_in H.earliest J p v)) ≡ list_of (cond (ltb (begun_in p v) (count L v)) (map_option (moved L P v) (H.earliest (station_of L v (begun_in p v)) (ready L P v) (length_of L v (begun_in p v)))) None)
+      by : (begun_in p v < count L v) ⊎ (count L v ≤ begun_in p v) → map view_due (child_by J p rs v (begin_in H.earliest J p v)) ≡ option_to_list (cond (ltb (begun_in p v) (count L v)) (option_map (moved L P v) (H.earliest (station_of L v (begun_in p v)) (ready L P v) (length_of L v (begun_in p v)))) None)
       by (inl l) =
           ap (λ o. map view_due (child_by J p rs v o)) (begin_is H v h l)
           ∙ each _ l
-          ∙ ap list_of (sym (cond-true (ltb (begun_in p v) (count L v)) _ None (lt-ltb _ _ l)))
+          ∙ ap option_to_list (sym (cond-true (ltb (begun_in p v) (count L v)) _ None (lt-ltb _ _ l)))
       by (inr l) =
           ap (λ o. map view_due (child_by J p rs v o)) (begin_none H v h l)
-          ∙ ap list_of (sym (cond-false (ltb (begun_in p v) (count L v)) _ None (le-ltb _ _ l)))
+          ∙ ap option_to_list (sym (cond-false (ltb (begun_in p v) (count L v)) _ None (le-ltb _ _ l)))
 
   pub children_is : (H : Hours) → FleetOk J → Fits p → (m n : ℕ) → n + m ≤ length J → children_below H L P n ++ map view_due (children H.earliest J p rs n m) ≡ children_below H L P (n + m)
   unfolding children_below
