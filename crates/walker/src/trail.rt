@@ -35,7 +35,7 @@ pub struct Trail {
 }
 
 impl Frame {
-    // The first move of a vehicle from `next` on.
+    // The first move of a vehicle from `next` on. That `find_map` over the range finds it, the check does not prove.
     fn next_move<H: Hours, G>(&self, by: &Setting<H, G>) -> Option<Move>
         ensures found { Found (hours_of (H.Hours.permits by.now.hours.now)).earliest by.now.fleet.now self.now result }
     {
