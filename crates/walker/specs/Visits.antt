@@ -1,5 +1,6 @@
 -- One visit, k visits, and the state of the walk that a walker stands for.
-use Rattle.std.specs.Prelude.{ℕ, zero, suc, ◌+◌, ◌≤◌, if◌then◌else◌, List, [], ◌∷◌, ◌++◌, length, Some, Option, option_map, IfSome, ◌==◌}
+use Rattle.std.specs.Prelude.{ℕ, zero, suc, ◌+◌, ◌≤◌, if◌then◌else◌, List, [], ◌∷◌, ◌++◌, length, Some, Option, option_map, ◌==◌}
+use Rattle.std.specs.Option.{ForSome}
 use Rattle.walk.specs.Held.{beats}
 use Rattle.hall.specs.declared.vehicle.Vehicle.{Vehicle}
 use Rattle.plans.specs.declared.row.Row.{Row}
@@ -62,4 +63,4 @@ stage_left H J w = stage (due_left H.earliest J w.trail) (held_in w) w.visits
 -- the trail is in order, and the plan held has a row for no more than the steps to begin
 pub record WalkerOk {S : Type 0} (J : List Vehicle) (w : Walker S) : Type 0 where
   pub trail : TrailOk J w.trail
-  pub fits : IfSome w.best (λ p. length p.rows.items ≤ w.trail.steps)
+  pub fits : ForSome w.best (λ p. length p.rows.items ≤ w.trail.steps)

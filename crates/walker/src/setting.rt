@@ -7,6 +7,7 @@ use hall::board::Board;
 use hall::vehicle::Vehicle;
 
 // The hours, the goal and the vehicles of a hall.
+#[derive(Drop)]
 pub struct Setting<'a, H, G> {
     pub hours: &'a H,
     pub goal: &'a G,

@@ -1,5 +1,6 @@
 // The walk as far as it has come.
-ghost use Rattle.std.specs.Prelude.{◌≡◌, ◌+◌, ◌^◌, ◌<◌, ◌≤◌, length, IfSome};
+ghost use Rattle.std.specs.Prelude.{◌≡◌, ◌+◌, ◌^◌, ◌<◌, ◌≤◌, length};
+ghost use Rattle.std.specs.Option.{ForSome};
 ghost use Rattle.walk.specs.Held.{beats};
 ghost use Rattle.plans.specs.Meanings.{hours_of, goal_of};
 ghost use Rattle.walker.specs.Visits.{WalkerOk, held_in, score_held, stage_of, stage_left, visit_once, visits_of};
@@ -111,7 +112,7 @@ impl<S: Copy> Walker<S> {
 
     // Writes the rows of the plan held in front, where there is one, and leaves the others.
     pub fn write(&self, rows: &mut [Row])
-        requires fits { IfSome self.now.best (λ p. length p.rows.items ≤ self.now.trail.steps) }
+        requires fits { ForSome self.now.best (λ p. length p.rows.items ≤ self.now.trail.steps) }
         requires room { self.now.trail.steps ≤ length rows.old }
         ensures written { rows.new ≡ written_by (held_in self.now) rows.old }
     {
