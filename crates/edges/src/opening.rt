@@ -4,7 +4,6 @@ use hours::open::Open;
 use hours::window::Window;
 use hours::windows::Windows;
 use hours::{Hours, least_begin};
-use std::process::Abort;
 use std::test::Fail;
 
 // A window of a station.
@@ -12,49 +11,42 @@ fn window(station: u32, from: u32, to: u32) -> Window {
     Window { station, from, to }
 }
 
-// Checks that a list of windows is refused, and with which index.
-fn refused(rt: &impl Abort, records: &[Window], index: usize) -> Result<(), Fail> {
-    match Windows::new(records) {
-        Ok(_) => Err(Fail::new("accepted")),
-        Err(fault) => {
-            assert_eq!(rt; fault.refusal(), 32);
-            assert_eq!(rt; fault.index(), Some(index));
-            Ok(())
-        }
-    }
+// The number and the index by which hours are refused, if they are.
+fn refusal<H: Drop>(made: Result<H, HoursFault>) -> Option<(u32, Option<usize>)> {
+    made.err().map(|fault| (fault.refusal(), fault.index()))
 }
 
 #[test]
-fn windows_are_refused(rt: HostRuntime) -> Result<(), Fail> {
+fn windows_are_refused(rt: HostRuntime) {
     let good = window(15, 0, 2_000_000);
-    refused(&rt, &[good; 257], 256)?;
-    refused(&rt, &[window(16, 0, 1); 257], 256)?;
-    assert_eq!(rt; Windows::new(&[good; 256]).is_ok(), true);
-    refused(&rt, &[window(16, 0, 1), good], 0)?;
-    refused(&rt, &[good, window(0, 5, 5), window(16, 0, 1)], 1)?;
-    refused(&rt, &[good, good, window(0, 6, 5)], 2)?;
-    refused(&rt, &[good, window(0, 0, 2_000_001)], 1)
-}
-
-// Checks that a closure is refused, without an index.
-fn not_closed(rt: &impl Abort, station: u32, from: u32, to: u32) -> Result<(), Fail> {
-    match Closure::new(Open, station, from, to) {
-        Ok(_) => Err(Fail::new("accepted")),
-        Err(fault) => {
-            assert_eq!(rt; fault.refusal(), 33);
-            assert_eq!(rt; fault.index(), None);
-            Ok(())
-        }
-    }
+    let bad = window(16, 0, 1);
+    assert_eq!(rt; refusal(Windows::new(&[good; 257])), Some((32, Some(256))));
+    assert_eq!(rt; refusal(Windows::new(&[bad; 257])), Some((32, Some(256))));
+    assert_eq!(rt; refusal(Windows::new(&[good; 256])), None);
+    assert_eq!(rt; refusal(Windows::new(&[bad, good])), Some((32, Some(0))));
+    assert_eq!(rt;
+        refusal(Windows::new(&[good, window(0, 5, 5), bad])),
+        Some((32, Some(1)))
+    );
+    assert_eq!(rt;
+        refusal(Windows::new(&[good, good, window(0, 6, 5)])),
+        Some((32, Some(2)))
+    );
+    assert_eq!(rt;
+        refusal(Windows::new(&[good, window(0, 0, 2_000_001)])),
+        Some((32, Some(1)))
+    );
 }
 
 #[test]
-fn closures_are_refused(rt: HostRuntime) -> Result<(), Fail> {
-    not_closed(&rt, 16, 0, 1)?;
-    not_closed(&rt, 0, 5, 5)?;
-    not_closed(&rt, 0, 0, 2_000_001)?;
-    assert_eq!(rt; Closure::new(Open, 15, 1_999_999, 2_000_000).is_ok(), true);
-    Ok(())
+fn closures_are_refused(rt: HostRuntime) {
+    assert_eq!(rt; refusal(Closure::new(Open, 16, 0, 1)), Some((33, None)));
+    assert_eq!(rt; refusal(Closure::new(Open, 0, 5, 5)), Some((33, None)));
+    assert_eq!(rt;
+        refusal(Closure::new(Open, 0, 0, 2_000_001)),
+        Some((33, None))
+    );
+    assert_eq!(rt; refusal(Closure::new(Open, 15, 1_999_999, 2_000_000)), None);
 }
 
 #[test]

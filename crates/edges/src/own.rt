@@ -1,6 +1,5 @@
 // Hours and a goal of a hall's own, under the closures, scores and holders of the library.
 ghost use Rattle.std.specs.Prelude.{◌≡◌, true, false, if◌then◌else◌, nat_eq, nat_le, refl};
-ghost use Rattle.std.proofs.lemmas.Bool.{false≢true};
 ghost use Rattle.std.proofs.Common.{arith, rules};
 ghost use Rattle.std.proofs.lemmas.Bool.Decides.{nat_tests};
 ghost use Rattle.goals.specs.Scoring.{monotone_by_step};
@@ -19,7 +18,7 @@ pub struct Never;
 impl Hours for Never {
     ghost permits = { λ _ _ _ _. false };
 
-    ghost limits = { λ _ _ _ _ e. absurd (false≢true e) };
+    ghost limits = { Prim.search rules };
 
     fn earliest(&self, _station: u32, _from: u32, _length: u32) -> Option<u32> {
         None

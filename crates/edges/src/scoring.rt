@@ -2,33 +2,26 @@ use goals::fault::GoalFault;
 use goals::lateness::GreatestLateness;
 use goals::latest::LatestFinish;
 use goals::{Goal, score_of};
-use std::process::Abort;
 use std::test::Fail;
 use walk::held::Held;
 
-// Checks that a list of due minutes is refused, and with which index.
-fn refused(rt: &impl Abort, due: &[u32], index: usize) -> Result<(), Fail> {
-    match GreatestLateness::new(due) {
-        Ok(_) => Err(Fail::new("accepted")),
-        Err(fault) => {
-            assert_eq!(rt; fault.refusal(), 34);
-            assert_eq!(rt; fault.index(), index);
-            Ok(())
-        }
-    }
+// The number and the index by which due minutes are refused, if they are.
+fn refusal(due: &[u32]) -> Option<(u32, usize)> {
+    let made = GreatestLateness::new(due);
+    made.err().map(|fault| (fault.refusal(), fault.index()))
 }
 
 #[test]
-fn due_minutes_are_refused(rt: HostRuntime) -> Result<(), Fail> {
-    refused(&rt, &[0; 23], 24)?;
-    refused(&rt, &[2_000_001; 25], 24)?;
-    refused(&rt, &[], 24)?;
+fn due_minutes_are_refused(rt: HostRuntime) {
+    assert_eq!(rt; refusal(&[0; 23]), Some((34, 24)));
+    assert_eq!(rt; refusal(&[2_000_001; 25]), Some((34, 24)));
+    assert_eq!(rt; refusal(&[]), Some((34, 24)));
     let mut due = [2_000_000; 24];
-    assert_eq!(rt; GreatestLateness::new(&due).is_ok(), true);
+    assert_eq!(rt; refusal(&due), None);
     due[23] = 2_000_001;
-    refused(&rt, &due, 23)?;
+    assert_eq!(rt; refusal(&due), Some((34, 23)));
     due[4] = 4_294_967_295;
-    refused(&rt, &due, 4)
+    assert_eq!(rt; refusal(&due), Some((34, 4)));
 }
 
 #[test]

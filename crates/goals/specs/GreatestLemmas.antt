@@ -1,12 +1,12 @@
 -- Scores that keep the greater of what vehicles are worth are the greatest of it.
 use Rattle.std.specs.Prelude.{◌≡◌, ℕ, zero, suc, ◌+◌, ◌<◌, ◌⊎◌, List, [], ◌∷◌, length, slice_index, refl}
 use Rattle.std.proofs.Common.{ap, ◌∙◌, inl, inr, ⊎_elim, arith}
+use Rattle.goals.specs.Finishes.{scored_from}
 use Rattle.goals.specs.Greatest.{Greatest}
 
 -- the greatest of y and what the vehicles v, v + 1, .. are worth
 abbrev pub most : {X : Type 0} → (X → X → X) → (ℕ → ℕ → X) → X → ℕ → List ℕ → X
-most greater worth y v [] = y
-most greater worth y v (x ∷ xs) = most greater worth (greater y (worth v x)) (v + 1) xs
+most greater worth = scored_from (λ y v x. greater y (worth v x))
 
 module _ {X : Type 0} (up_to : X → X → Type 0) (greater : X → X → X) (worth : ℕ → ℕ → X)
     (same : (y : X) → up_to y y) (first : (y z m : X) → up_to (greater y z) m → up_to y m) (second : (y z m : X) → up_to (greater y z) m → up_to z m)

@@ -1,12 +1,13 @@
--- Lateness scores keep their order as finishes grow; the scores of the two goals are the greatest finish and lateness.
-use Rattle.std.specs.Prelude.{◌≡◌, ℕ, ◌+◌, ◌<◌, ◌≤◌, max, true, List, [], ◌∷◌, ℤ, Some, None, Option, int_le, int_lt, refl}
-use Rattle.std.proofs.Common.{sym, ap, subst, ◌∙◌, inl, inr, ⊎_elim, arith}
+-- Scores keep their order as finishes grow; the scores of the two goals are the greatest finish and lateness.
+use Rattle.std.specs.Prelude.{◌≡◌, ℕ, nat_le, ◌+◌, ◌≤◌, max, true, List, [], ◌∷◌, ℤ, Some, None, Option, int_le, refl}
+use Rattle.std.proofs.Common.{ap, subst, arith}
 use Rattle.std.specs.Int.{int_max}
 use Rattle.std.proofs.lemmas.Int.{ints}
-use Rattle.std.proofs.lemmas.Bool.{cases_Bool, cases_lt, cond-true, cond-false}
-use Rattle.goals.specs.Finishes.{scored_from}
+use Rattle.std.proofs.lemmas.Bool.Decides.{nat_tests}
+use Rattle.goals.specs.Finishes.{scored_from, scored, NoLater}
 use Rattle.goals.specs.Greatest.{Greatest, LatestFinishIsGreatest, LatenessIsGreatest}
 use Rattle.goals.specs.Scores.{with_finish, lateness_of, with_lateness, no_later}
+use Rattle.goals.specs.Scoring.{monotone_by_step}
 use Rattle.goals.specs.GreatestLemmas.{most, most_greatest}
 
 module _ (due : List ℕ) where
@@ -15,6 +16,9 @@ module _ (due : List ℕ) where
   lateness_keeps None (Some b) v x y le r = grind (arith, ints)
   lateness_keeps (Some a) None v x y le r = grind (arith, ints)
   lateness_keeps (Some a) (Some b) v x y le r = grind (arith, ints)
+
+  pub lateness_monotone : (xs ys : List ℕ) → NoLater xs ys → no_later (scored (with_lateness due) None xs) (scored (with_lateness due) None ys) ≡ true
+  lateness_monotone = monotone_by_step (with_lateness due) (λ a b. no_later a b ≡ true) (λ s t v x y few le small r. lateness_keeps s t v x y le r) None refl
 
   scored_most : (y : ℤ) (v : ℕ) (xs : List ℕ) → scored_from (with_lateness due) (Some y) v xs ≡ Some (most int_max (lateness_of due) y v xs)
   scored_most y v [] = refl
@@ -27,20 +31,19 @@ module _ (due : List ℕ) where
       most int_max (lateness_of due) (lateness_of due 0 x) 1 xs,
       scored_most (lateness_of due 0 x) 1 xs,
       most_greatest (λ y z. int_le y z ≡ true) int_max (lateness_of due) (λ y. grind (arith, ints)) (λ y z m h. grind (arith, ints)) (λ y z m h. grind (arith, ints))
-          (λ y z. ⊎_elim (λ e. inl (cond-true (int_lt z y) y z e)) (λ e. inr (cond-false (int_lt z y) y z e)) (cases_Bool (int_lt z y))) x xs,
+          (λ y z. grind (arith, ints)) x xs,
     );
   }
 
-latest_most : (s v : ℕ) (xs : List ℕ) → scored_from with_finish s v xs ≡ most max (λ _ y. y) s v xs
-latest_most s v [] = refl
-latest_most s v (x ∷ xs) = latest_most (max s x) (v + 1) xs
+pub latest_monotone : (xs ys : List ℕ) → NoLater xs ys → nat_le (scored with_finish 0 xs) (scored with_finish 0 ys) ≡ true
+latest_monotone = monotone_by_step with_finish (λ a b. nat_le a b ≡ true) (λ s t v x y few le small r. grind (arith, nat_tests)) 0 refl
 
 pub latest_finish : LatestFinishIsGreatest
 latest_finish = record {
   none = refl;
   greatest = λ x xs.
       let one : x ≡ max 0 x = omega arith in
-      subst (Greatest ◌≤◌ (λ _ y. y) (x ∷ xs)) (ap (λ s. most max (λ _ y. y) s 1 xs) one ∙ sym (latest_most (max 0 x) 1 xs))
+      subst (Greatest ◌≤◌ (λ _ y. y) (x ∷ xs)) (ap (λ s. most max (λ _ y. y) s 1 xs) one)
       (most_greatest ◌≤◌ max (λ _ y. y) (λ y. omega arith) (λ y z m h. omega arith) (λ y z m h. omega arith)
-      (λ y z. ⊎_elim (λ (l : y < z). inr (omega arith)) (λ (l : z ≤ y). inl (omega arith)) (cases_lt y z)) x xs);
+      (λ y z. grind arith) x xs);
 }

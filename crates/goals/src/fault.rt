@@ -4,8 +4,9 @@ ghost use Rattle.goals.specs.Faults.{refusal_of, index_of};
 
 use crate::MOST_VEHICLES;
 
-// Each case has a refusal number and an index.
-#[derive(Clone, Copy, Debug, PartialEq)]
+// Each case has a refusal number and an index. The rules give cases one number together, and a case that holds an index has
+// no discriminant, so methods give both.
+#[derive(Clone, Copy, Debug, PartialEq, Eq)]
 pub enum GoalFault {
     // Not one due minute for each vehicle.
     DueCount,

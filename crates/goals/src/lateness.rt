@@ -1,11 +1,8 @@
 // The goal of keeping due minutes.
-ghost use Rattle.std.specs.Prelude.{◌≡◌, Some, None, MatchResult, refl};
-ghost use Rattle.std.specs.List.{prefix_len};
+ghost use Rattle.std.specs.Prelude.{◌≡◌, not, position, Some, None, MatchResult};
 ghost use Rattle.goals.specs.Scores.{with_lateness, no_later};
 ghost use Rattle.goals.specs.Faults.{may_be_due, due_fault};
-ghost use Rattle.std.proofs.Math.Bool;
-ghost use Rattle.goals.specs.ScoresLemmas.{lateness_keeps};
-ghost use Rattle.goals.specs.Scoring.{monotone_by_step};
+ghost use Rattle.goals.specs.ScoresLemmas.{lateness_monotone};
 ghost use Rattle.std.proofs.Common.{rules};
 
 use crate::fault::GoalFault;
@@ -21,36 +18,23 @@ pub struct GreatestLateness {
     due: [u32; MOST_VEHICLES],
 }
 
-// Whether a minute may be due.
-fn may_be_due(minute: u32) -> bool
-    ensures { result ≡ may_be_due minute }
+// The index of the first minute that may not be due, if there is one.
+fn first_beyond(due: &[u32]) -> Option<usize>
+    ensures { result ≡ position (λ d. not (may_be_due d)) due.now }
 {
-    minute <= LAST_DUE
-}
-
-// How many minutes in front may be due, which is the index of the first that may not, if there is one.
-fn due_front(due: &[u32]) -> usize
-    ensures { result ≡ prefix_len may_be_due due.now }
-{
-    for (i, minute) in due.iter().enumerate() {
-        if !may_be_due(*minute) {
-            return i;
-        }
-    }
-    due.len()
+    due.iter().position(|minute| *minute > LAST_DUE)
 }
 
 impl GreatestLateness {
     // The goal with these due minutes, in the order of the vehicles' numbers, or the fault of the list.
     pub fn new(due: &[u32]) -> Result<GreatestLateness, GoalFault>
-        ensures made { MatchResult result (λ g. (due_fault due.now ≡ None) × (g.due ≡ due.now)) (λ e. due_fault due.now ≡ Some e) }
+        ensures made { MatchResult result
+            (λ g. (due_fault due.now ≡ None) × (g.due ≡ due.now))
+            (λ e. due_fault due.now ≡ Some e) }
     {
-        let Ok(table) = <[u32; MOST_VEHICLES]>::try_from(due) else {
-            return Err(GoalFault::DueCount);
-        };
-        let front = due_front(due);
-        if front < due.len() {
-            return Err(GoalFault::DueBeyond(front));
+        let table = <[u32; MOST_VEHICLES]>::try_from(due).map_err(|_| GoalFault::DueCount)?;
+        if let Some(index) = first_beyond(due) {
+            return Err(GoalFault::DueBeyond(index));
         }
         Ok(GreatestLateness { due: table })
     }
@@ -69,7 +53,7 @@ impl Goal for GreatestLateness {
 
     ghost transitive = { Prim.search rules };
 
-    ghost monotone = { λ g. monotone_by_step (with_lateness g.due) (λ a b. no_later a b ≡ Bool.true) (λ s t v x y few le small. lateness_keeps g.due s t v x y le) None refl };
+    ghost monotone = { λ g. lateness_monotone g.due };
 
     fn start(&self) -> Option<i64> {
         None
@@ -77,17 +61,10 @@ impl Goal for GreatestLateness {
 
     fn add(&self, score: Option<i64>, vehicle: usize, finish: u32) -> Option<i64> {
         let lateness = i64::from(finish) - i64::from(self.due[vehicle]);
-        let Some(greatest) = score else {
-            return Some(lateness);
-        };
-        Some(greatest.max(lateness))
+        score.max(Some(lateness))
     }
 
     fn no_worse(&self, a: Option<i64>, b: Option<i64>) -> bool {
-        match (a, b) {
-            (None, _) => true,
-            (Some(_), None) => false,
-            (Some(x), Some(y)) => x <= y,
-        }
+        a <= b
     }
 }

@@ -1,9 +1,8 @@
 // The goal of an early end of the day.
-ghost use Rattle.std.specs.Prelude.{◌≡◌, true, nat_le, refl};
+ghost use Rattle.std.specs.Prelude.{nat_le};
 ghost use Rattle.goals.specs.Scores.{with_finish};
-ghost use Rattle.std.proofs.Common.{arith, rules};
-ghost use Rattle.std.proofs.lemmas.Bool.Decides.{nat_tests};
-ghost use Rattle.goals.specs.Scoring.{monotone_by_step};
+ghost use Rattle.std.proofs.Common.{rules};
+ghost use Rattle.goals.specs.ScoresLemmas.{latest_monotone};
 
 use crate::Goal;
 
@@ -24,7 +23,7 @@ impl Goal for LatestFinish {
 
     ghost transitive = { Prim.search rules };
 
-    ghost monotone = { λ g. monotone_by_step with_finish (λ a b. nat_le a b ≡ true) (λ s t v x y few le small r. Prim.grind (arith, nat_tests)) 0 refl };
+    ghost monotone = { λ _. latest_monotone };
 
     fn start(&self) -> u32 {
         0

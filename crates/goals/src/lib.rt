@@ -40,7 +40,8 @@ pub trait Goal {
 
     ghost transitive: { (g : Self) (a b c : Self.Score) → no_worse g a b ≡ true → no_worse g b c ≡ true → no_worse g a c ≡ true };
 
-    ghost monotone: { (g : Self) (xs ys : List ℕ) → NoLater xs ys → no_worse g (scored (adding g) (starting g) xs) (scored (adding g) (starting g) ys) ≡ true };
+    ghost monotone: { (g : Self) (xs ys : List ℕ) → NoLater xs ys
+        → no_worse g (scored (adding g) (starting g) xs) (scored (adding g) (starting g) ys) ≡ true };
 }
 
 // The goal's score of all finishes. For the goals of this crate it is the greatest finish, and the greatest lateness.
@@ -50,6 +51,7 @@ pub fn score_of<G: Goal>(goal: &G, finishes: &[u32]) -> G::Score
     ensures latest { LatestFinishIsGreatest }
     ensures lateness { (due : List ℕ) → LatenessIsGreatest due }
 {
+    // the loop is the recursion of `scored`, one finish a turn; a `fold` over pairs would need a lemma that the two agree
     let mut score = goal.start();
     for (vehicle, finish) in finishes.iter().enumerate() {
         score = goal.add(score, vehicle, *finish);

@@ -1,26 +1,21 @@
 -- A query has one answer, the value of earliest_of.
-use Rattle.std.proofs.Common.{◌≡◌, ℕ, zero, suc, ◌+◌, ◌-◌, ◌<◌, ◌≤◌, Bool, true, false, Some, None, Option, sym, refl, ap, ⊎_elim, arith}
-use Rattle.std.proofs.lemmas.Bool.{both_ways, cases_order, cases_Bool, cond_both}
+use Rattle.std.proofs.Common.{◌≡◌, ℕ, zero, suc, ◌+◌, ◌-◌, ◌≤◌, Bool, true, false, Some, None, Option, refl, ap, arith}
+use Rattle.std.proofs.lemmas.Bool.{cond_both}
 use Rattle.hours.specs.Earliest.{Earliest, first_of, earliest_of}
 
 pub earliest_unique : (p : ℕ → Bool) (from : ℕ) (x y : Option ℕ) → Earliest p from x → Earliest p from y → x ≡ y
 earliest_unique p from None None h k = refl
-earliest_unique p from None (Some y) h k = absurd (both_ways (p y) (h y k.0) k.1)
-earliest_unique p from (Some x) None h k = absurd (both_ways (p x) (k x h.0) h.1)
+earliest_unique p from None (Some y) h k = grind arith
+earliest_unique p from (Some x) None h k = grind arith
 earliest_unique p from (Some x) (Some y) h k =
-    ap Some
-    (⊎_elim (λ e. e)
-    (⊎_elim (λ (l : x < y). absurd (both_ways (p x) (k.2 x h.0 l) h.1)) (λ (l : y < x). absurd (both_ways (p y) (h.2 y k.0 l) k.1)))
-    (cases_order x y))
+    let same : x ≡ y = grind arith in
+    ap Some same
 
 -- where a begin is not permitted, the answer is that from the next minute on
 module _ (p : ℕ → Bool) (from : ℕ) (e : p from ≡ false) where
-  low : (b : ℕ) → from ≤ b → (from + 1 ≤ b → p b ≡ false) → p b ≡ false
-  low b l more = ⊎_elim (λ (q : from ≡ b). rw (sym q) e) (⊎_elim (λ (q : from < b). more (omega arith)) (λ (q : b < from). absurd (omega arith))) (cases_order from b)
-
   later : (r : Option ℕ) → Earliest p (from + 1) r → Earliest p from r
-  later None h = λ b l. low b l (h b)
-  later (Some x) h = (omega (arith, h.0), h.1, λ b l m. low b l (λ k. h.2 b k m))
+  later None h = grind arith
+  later (Some x) h = grind arith
 
 first_earliest : (p : ℕ → Bool) (k from : ℕ) → ((b : ℕ) → from + k ≤ b → p b ≡ false) → Earliest p from (first_of p k from)
 first_earliest p zero from h = λ b l. h b (omega arith)
@@ -34,7 +29,7 @@ module _ (p : ℕ → Bool) (low : (b : ℕ) → p b ≡ true → b ≤ 2000000)
   unfolding earliest_of
   earliest_of-earliest =
       first_earliest p (2000001 - from) from
-      (λ b l. ⊎_elim (λ (e : p b ≡ true). absurd (let k : b ≤ 2000000 = low b e in omega arith)) (λ e. e) (cases_Bool (p b)))
+      (λ b l. grind arith)
 
   pub earliest_is : (r : Option ℕ) → Earliest p from r → r ≡ earliest_of p from
   earliest_is r h = earliest_unique p from r (earliest_of p from) h earliest_of-earliest

@@ -1,6 +1,6 @@
 -- Why hours are refused: for each case its number and the index that it tells; and which windows and closures are refused.
-use Rattle.std.specs.Prelude.{ℕ, cond, List, length, Some, None, Option, nat_lt}
-use Rattle.std.specs.List.{prefix_len}
+use Rattle.std.specs.Prelude.{ℕ, if◌then◌else◌, not, List, length, position, Some, None, Option, nat_lt}
+use Rattle.std.specs.Option.{option_map}
 use Rattle.hours.specs.declared.fault.HoursFault.{HoursFault}
 use Rattle.hours.specs.declared.fault.HoursFault.TheVariants.{WindowCount, WindowOutside, ClosureOutside}
 use Rattle.hours.specs.declared.window.Window.{Window}
@@ -16,12 +16,13 @@ index_of WindowCount = Some 256
 index_of (WindowOutside i) = Some i
 index_of ClosureOutside = None
 
--- too many windows, else the first that is outside its limits: the lawful ones in front of it are as many as its index
+-- too many windows, else the first that is outside its limits
 abbrev pub windows_fault : List Window → Option HoursFault
 windows_fault ws =
-    cond (nat_lt 256 (length ws)) (Some WindowCount)
-    (cond (nat_lt (prefix_len lawful ws) (length ws)) (Some (WindowOutside (prefix_len lawful ws))) None)
+    if nat_lt 256 (length ws)
+    then Some WindowCount
+    else option_map WindowOutside (position (λ w. not (lawful w)) ws)
 
 -- a closure of station s from minute a up to minute z has the limits of a window
 abbrev pub closure_fault : ℕ → ℕ → ℕ → Option HoursFault
-closure_fault s a z = cond (lawful (record { station = s; from = a; to = z })) None (Some ClosureOutside)
+closure_fault s a z = if lawful (record { station = s; from = a; to = z }) then None else Some ClosureOutside

@@ -1,6 +1,6 @@
 // Hours with a closure.
 ghost use Rattle.std.specs.Prelude.{◌≡◌, not, ◌&&◌, Some, None, MatchResult};
-ghost use Rattle.std.proofs.lemmas.Bool.{and_parts};
+ghost use Rattle.std.proofs.Common.{rules};
 ghost use Rattle.hours.specs.Window.{overlaps};
 ghost use Rattle.hours.specs.Faults.{closure_fault};
 
@@ -16,9 +16,13 @@ pub struct Closure<H> {
 }
 
 impl<H: Hours + Drop> Closure<H> {
-    // The hours `below` with the station closed from minute `from` up to, but not with, minute `to`.
+    // The hours `below` with the station closed from minute `from` up to, but not with, minute `to`. The rules ask for three
+    // numbers and not for a window, and refuse them here.
     pub fn new(below: H, station: u32, from: u32, to: u32) -> Result<Closure<H>, HoursFault>
-        ensures made { MatchResult result (λ h. (closure_fault station from to ≡ None) × (h.below ≡ below) × (h.closed ≡ record { station = station; from = from; to = to })) (λ e. closure_fault station from to ≡ Some e) }
+        ensures made { MatchResult result
+            (λ h. (closure_fault station from to ≡ None) × (h.below ≡ below)
+            × (h.closed ≡ record { station = station; from = from; to = to }))
+            (λ e. closure_fault station from to ≡ Some e) }
     {
         let closed = Window { station, from, to };
         if !closed.is_lawful() {
@@ -31,7 +35,7 @@ impl<H: Hours + Drop> Closure<H> {
 impl<H: Hours> Hours for Closure<H> {
     ghost permits = { λ h s b n. H.Hours.permits h.below s b n && not (overlaps h.closed s b n) };
 
-    ghost limits = { λ h s b n e. H.Hours.limits h.below s b n (and_parts (H.Hours.permits h.below s b n) (not (overlaps h.closed s b n)) e).0 };
+    ghost limits = { Prim.search rules };
 
     fn earliest(&self, station: u32, from: u32, length: u32) -> Option<u32> {
         let begin = self.below.earliest(station, from, length)?;

@@ -4,8 +4,9 @@ ghost use Rattle.hours.specs.Faults.{refusal_of, index_of};
 
 use crate::windows::MOST_WINDOWS;
 
-// Each case has a refusal number, and an index where a list of records is at fault.
-#[derive(Clone, Copy, Debug, PartialEq)]
+// Each case has a refusal number, and an index where a list of records is at fault. The rules give cases one number together,
+// and a case that holds an index has no discriminant, so methods give both.
+#[derive(Clone, Copy, Debug, PartialEq, Eq)]
 pub enum HoursFault {
     // More windows than there may be.
     WindowCount,

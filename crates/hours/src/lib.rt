@@ -16,14 +16,16 @@ pub mod windows;
 pub trait Hours {
     ghost permits: { Self → ℕ → ℕ → ℕ → Bool };
 
-    ghost limits: { (h : Self) (s b n : ℕ) → permits h s b n ≡ true → Within s b n };
-
-    // The least begin at `from` or later that is permitted on the station for the length, if there is one.
+    // The least begin at `from` or later that is permitted on the station for the length, if there is one. The rules ask it
+    // with three numbers, and halls bring hours of their own, so they stay three and make no struct.
     fn earliest(&self, station: u32, from: u32, length: u32) -> Option<u32>
         ensures least { Earliest (λ b. permits self.now station b length) from result };
+
+    ghost limits: { (h : Self) (s b n : ℕ) → permits h s b n ≡ true → Within s b n };
 }
 
 // The query's answer, which the permitted set alone fixes.
+#[tactic(auto, using(crate::proofs::Unique::earliest_is))]
 pub fn least_begin<H: Hours>(hours: &H, station: u32, from: u32, length: u32) -> Option<u32>
     ensures least { Earliest (λ b. H.Hours.permits hours.now station b length) from result }
     ensures value { result ≡ earliest_of (λ b. H.Hours.permits hours.now station b length) from }

@@ -16,8 +16,5 @@ pub fn is_within(station: u32, begin: u32, length: u32) -> bool
     ensures value { result ≡ within station begin length }
     ensures limits { (result ≡ true → Within station begin length) × (Within station begin length → result ≡ true) }
 {
-    station <= LAST_STATION
-        && 1 <= length
-        && length <= LONGEST_STEP
-        && begin <= LAST_MINUTE - length
+    station <= LAST_STATION && (1..=LONGEST_STEP).contains(&length) && begin <= LAST_MINUTE - length
 }

@@ -1,5 +1,6 @@
 // Hours that are always open.
-ghost use Rattle.hours.specs.Limits.{within, within_limits};
+ghost use Rattle.std.proofs.Common.{rules};
+ghost use Rattle.hours.specs.Limits.{within};
 
 use crate::Hours;
 use crate::limits::is_within;
@@ -11,12 +12,9 @@ pub struct Open;
 impl Hours for Open {
     ghost permits = { λ _ s b n. within s b n };
 
-    ghost limits = { λ _ s b n e. within_limits s b n e };
+    ghost limits = { Prim.search rules };
 
     fn earliest(&self, station: u32, from: u32, length: u32) -> Option<u32> {
-        if !is_within(station, from, length) {
-            return None;
-        }
-        Some(from)
+        is_within(station, from, length).then_some(from)
     }
 }

@@ -29,10 +29,7 @@ impl<G: Goal> Held<G> {
     pub fn beats(&self, goal: &G, bound: G::Score) -> bool
         ensures value { result ≡ beats (G.Goal.no_worse goal.now) self.now.score bound }
     {
-        match self.score {
-            None => false,
-            Some(held) => goal.no_worse(held, bound),
-        }
+        self.score.is_some_and(|held| goal.no_worse(held, bound))
     }
 
     // Holds `score` from now on, unless what is held is no worse. What is held then beats `score`, and all that it beat before.
@@ -42,7 +39,7 @@ impl<G: Goal> Held<G> {
         ensures old { Still (G.Goal.no_worse goal.now) self.old.score self.new.score }
     {
         if !self.beats(goal, score) {
-            *self = Held { score: Some(score) };
+            self.score = Some(score);
         }
     }
 }
