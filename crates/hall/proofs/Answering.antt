@@ -1,5 +1,5 @@
 -- A call that is accepted or refused does what the rules make of it.
-use Rattle.std.proofs.Common.{◌≡◌, ℕ, IsErrAnd, Ok, Err, Result, sym, refl, ap, ◌∙◌, subst, arith}
+use Rattle.std.proofs.Common.{◌≡◌, ℕ, IsErrAnd, Ok, Err, Result, sym, ap, ◌∙◌, subst}
 use Rattle.std.proofs.lemmas.Result.{err_from_is_err_and}
 use Rattle.hall.specs.declared.board.Board.{Board}
 use Rattle.hall.specs.declared.fault.BoardFault.{BoardFault}

@@ -1,12 +1,12 @@
 -- Begin is accepted exactly where the composition has that step.
-use Rattle.std.proofs.Common.{◌≡◌, ℕ, suc, ◌<◌, true, false, not, ◌&&◌, eqb, ltb, List, [], ◌∷◌, length, get_or, set, Some, Ok, sym, refl, ap, ◌∙◌, subst, inl, ⊎_elim, arith}
+use Rattle.std.proofs.Common.{◌≡◌, ℕ, suc, ◌<◌, true, false, not, ◌&&◌, eqb, ltb, List, [], ◌∷◌, length, get_or, Some, Ok, sym, refl, ap, ◌∙◌, subst, inl, ⊎_elim, arith}
 use Rattle.std.proofs.lemmas.List.{get_or_past, length-map}
 use Rattle.std.proofs.lemmas.Bool.{cases_lt, cases_eq, cases_Bool, cond-true, and_parts, or_from, both_ways, eqb-true, lt-ltb}
 use Rattle.hall.specs.declared.step.Progress.TheVariants.{Running}
 use Rattle.hall.specs.declared.step.StepRecord.{StepRecord}
 use Rattle.hall.specs.Job.{Place, waits, runs, beginning, station, Config, booking_of, jobs_of, place_of, clock_of, config_of, Begins}
 use Rattle.hall.specs.Lasting.{Lasting}
-use Rattle.hall.specs.Log.{Log, vehicle_at, step_at, blank, reached, marked, begun, idle, running, taken, occupies, begin_of, steps_with}
+use Rattle.hall.specs.Log.{Log, vehicle_at, step_at, blank, marked, begun, idle, running, taken, occupies, begin_of, steps_with}
 use Rattle.hall.specs.Rules.{begin_answer}
 use Rattle.hall.proofs.Begins.{MayBegin, begin_ok}
 use Rattle.hall.proofs.Configurations.{booked_step, moves, by_vehicle}
@@ -63,7 +63,7 @@ free_of_all s (v ∷ vs) h =
     or_from (occupies s v) (taken s vs) (free_of_row s v (h 0)) (free_of_all s vs (λ u. h (suc u)))
 
 waits_runs : (p : Place) (n : ℕ) → p ≡ waits n → p ≡ runs n → ⊥
-waits_runs p n a b = let z : ◌≡◌ {A = ℕ} 0 1 = cc in omega arith
+waits_runs p n a b = cc
 
 -- the vehicle of a state other than final is in the hall
 pub known_by_steps : (l : Log) (v i : ℕ) → i < length (vehicle_at l v) → v < length l.vehicles

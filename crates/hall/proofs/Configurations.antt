@@ -55,9 +55,9 @@ same_jobs l v j p known =
 
 -- a job that uses a station runs a step on it
 pub uses_runs : (ss : List Step) (p : Place) (s : ℕ) → station ss p ≡ Some s → (i : ℕ) × (p ≡ runs i) × ((step_of ss i).station ≡ s)
-uses_runs ss (waits i) s h = let z : ◌≡◌ {A = ℕ} 0 1 = cc in absurd (omega arith)
+uses_runs ss (waits i) s h = cc
 uses_runs ss (runs i) s h = (i, refl, cc)
-uses_runs ss final s h = let z : ◌≡◌ {A = ℕ} 0 1 = cc in absurd (omega arith)
+uses_runs ss final s h = cc
 
 pub place_running : (rs : List StepRecord) (i : ℕ) → place_of rs ≡ runs i → running (get_or rs i blank).progress ≡ true
 place_running rs i h =
@@ -102,23 +102,26 @@ module _ (l : Log) (v j : ℕ) (p : Progress) (known : v < length l.vehicles) (o
       (cases_eq u v)
 
   pub moves : Discrete (hall_automaton (jobs_of l)) (config_of l) (config_of (marked l v j p)) × ((config_of (marked l v j p)).state v ≡ m.to)
-  moves = (record {
-    move = alone (config_of l).state v m;
-    has = record {
-      who = v;
-      move = m;
-      has = has;
-      from = from;
-      is = refl;
-      free_from = free_config l old;
-      free_to = subst (Free (λ w. station (jobs_of l w))) state_after
-          (subst (λ J. Free (λ w. station (J w)) (config_of (marked l v j p)).state) (same_jobs l v j p known) (free_config (marked l v j p) new));
-    };
-    leaves = refl;
-    allowed = allowed;
-    enters = state_after;
-    clocks = fun_ext (λ d. clock_after d.0);
-  }, ap (λ q. q v) state_after ∙ put_here (config_of l).state v m.to v refl)
+  moves = (
+    record {
+      move = alone (config_of l).state v m;
+      has = record {
+        who = v;
+        move = m;
+        has = has;
+        from = from;
+        is = refl;
+        free_from = free_config l old;
+        free_to = subst (Free (λ w. station (jobs_of l w))) state_after
+            (subst (λ J. Free (λ w. station (J w)) (config_of (marked l v j p)).state) (same_jobs l v j p known) (free_config (marked l v j p) new));
+      };
+      leaves = refl;
+      allowed = allowed;
+      enters = state_after;
+      clocks = fun_ext (λ d. clock_after d.0);
+    },
+    ap (λ q. q v) state_after ∙ put_here (config_of l).state v m.to v refl,
+  )
 
 -- a discrete step of the composition that changes the state of vehicle v is one of its job
 pub record ByVehicle (jobs : ℕ → List Step) (x y : Config) (v : ℕ) : Type 0 where

@@ -8,7 +8,8 @@ use Rattle.hall.specs.Log.{Log}
 use Rattle.hall.specs.Rules.{enter_log, booked}
 use Rattle.hall.specs.View.{steps_of, log_of}
 
-abbrev log : ℕ → List (List StepRecord) → Log
+-- the log at minute m of these vehicles
+abbrev pub log : ℕ → List (List StepRecord) → Log
 log m vs = record { minute = m; vehicles = vs }
 
 -- one more record in the table is one more vehicle in the log

@@ -1,13 +1,13 @@
 -- Finish is accepted exactly where the composition has that step.
-use Rattle.std.proofs.Common.{◌≡◌, ℕ, ◌+◌, ◌-◌, ◌≤◌, Bool, true, false, cond, ltb, leb, List, length, set, Ok, sym, refl, ap, ◌∙◌, inr, ⊎_elim, arith}
+use Rattle.std.proofs.Common.{◌≡◌, ℕ, ◌+◌, ◌-◌, ◌≤◌, true, leb, List, length, Ok, sym, refl, ap, ◌∙◌, inr, ⊎_elim, arith}
 use Rattle.std.proofs.lemmas.List.{length-map}
 use Rattle.std.proofs.lemmas.Bool.{le-leb, leb-true}
 use Rattle.hall.specs.declared.step.Progress.TheVariants.{Done}
 use Rattle.hall.specs.declared.step.Step.{Step}
 use Rattle.hall.specs.Automaton.{Transition}
-use Rattle.hall.specs.Job.{Place, waits, runs, final, before, step_of, finishing, JobHas, Config, booking_of, jobs_of, place_of, clock_of, config_of, Finishes}
+use Rattle.hall.specs.Job.{Place, waits, runs, before, step_of, finishing, JobHas, Config, booking_of, jobs_of, place_of, clock_of, config_of, Finishes}
 use Rattle.hall.specs.Lasting.{Lasting}
-use Rattle.hall.specs.Log.{Log, vehicle_at, step_at, reached, marked, begin_of, least_time, steps_with}
+use Rattle.hall.specs.Log.{Log, vehicle_at, step_at, marked, begin_of, least_time, steps_with}
 use Rattle.hall.specs.Rules.{finish_answer}
 use Rattle.hall.proofs.BeginSteps.{known_by_steps}
 use Rattle.hall.proofs.Configurations.{booked_step, place_running, moves, by_vehicle}
@@ -54,11 +54,7 @@ module _ (l : Log) (v n : ℕ) (k : Lasting l) (m : MayFinish l v n) where
       record { step = s.0; ran = from; went_on = s.1 }
 
 before_runs : (c j i : ℕ) (p : Place) → p ≡ before c j → p ≡ runs i → ⊥
-before_runs c j i p a b = by (ltb j c) (sym b ∙ a)
-  where
-    by : (t : Bool) → runs i ≡ cond t (waits j) final → ⊥
-    by true h = let z : ◌≡◌ {A = ℕ} 0 1 = cc in omega arith
-    by false h = let z : ◌≡◌ {A = ℕ} 0 1 = cc in omega arith
+before_runs c j i p a b = grind arith
 
 -- a job leaves the state in which it runs step n only once the step's least time has passed
 late_enough : (ss : List Step) (m : Transition Place (Unit {0})) (n c : ℕ) → JobHas ss m → runs n ≡ m.from → m.guard (λ d. c) ≡ true

@@ -13,7 +13,7 @@ use Rattle.hall.specs.Automaton as automaton
 use Rattle.hall.specs.Hall.{hall_log, Called}
 use Rattle.hall.specs.Job.{Place, Config, before, hall_automaton, booking_of, jobs_of, config_of, Begins, Finishes}
 use Rattle.hall.specs.Log.{Log, empty_log, vehicle_at, step_at, marked, waiting, begin_of}
-use Rattle.hall.specs.Rules.{Call, enter, begin, finish, pass, answer_to, written, after, log_after_all, enter_log, pass_log}
+use Rattle.hall.specs.Rules.{Call, enter, begin, finish, pass, answer_to, written, after, log_after_all, enter_log}
 use Rattle.hall.specs.Series.{Made, Led, left, KeptFromArguments, Accepted, Enters, Works, duration_of, run_step, RunFrom, RunsAsComposed}
 use Rattle.hall.proofs.Configurations.{same_jobs}
 use Rattle.hall.proofs.Kept.{kept}

@@ -1,12 +1,12 @@
 -- Begin, finish and pass keep what every board keeps, and an empty board has it.
-use Rattle.std.proofs.Common.{◌≡◌, ℕ, zero, suc, ◌+◌, ◌<◌, ◌≤◌, Bool, true, false, not, ◌&&◌, eqb, leb, ◌⊎◌, List, [], ◌∷◌, length, get_or, sym, refl, ap, subst, ⊎_elim, arith}
-use Rattle.std.proofs.lemmas.Bool.{cases_Bool, and_parts, and_from, or_cases, or_parts, or_right, or_left, both_ways, eq-eqb, le-leb}
+use Rattle.std.proofs.Common.{◌≡◌, ℕ, zero, suc, ◌+◌, ◌<◌, ◌≤◌, true, false, not, ◌&&◌, eqb, List, [], ◌∷◌, length, get_or, sym, refl, ap, subst, ⊎_elim, arith}
+use Rattle.std.proofs.lemmas.Bool.{cases_Bool, or_parts, both_ways, eq-eqb}
 use Rattle.hall.specs.Log.{Log, vehicle_at, step_at, blank, reached, marked, begun, idle, finished, running, waiting, done, begin_of, end_of, least_time, occupies, taken, empty_log}
 use Rattle.hall.specs.Rules.{pass_log}
 use Rattle.hall.specs.Lasting.{Lasting, clear}
 use Rattle.hall.specs.declared.step.StepRecord.{StepRecord}
 use Rattle.hall.specs.declared.step.Progress.{Progress}
-use Rattle.hall.specs.declared.step.Progress.TheVariants.{Waiting, Running, Done}
+use Rattle.hall.specs.declared.step.Progress.TheVariants.{Running, Done}
 use Rattle.hall.proofs.Leading.{leading_below, leading_at, leading_all}
 use Rattle.hall.proofs.Begins.{MayBegin}
 use Rattle.hall.proofs.Finishes.{MayFinish}
@@ -14,34 +14,22 @@ use Rattle.hall.proofs.Spots.{spot, same_size, same_fleet, ordered_more, follows
 
 -- a step has one of three kinds of progress
 pub begun_done : (p : Progress) → not (waiting p) ≡ true → running p ≡ false → done p ≡ true
-begun_done Waiting a b = a
-begun_done (Running t) a b = absurd (both_ways true b refl)
-begun_done (Done t u) a b = refl
+begun_done p a b = grind arith
 
 pub idle_running : (p : Progress) → not (running p) ≡ false → running p ≡ true
-idle_running Waiting h = absurd (both_ways true h refl)
-idle_running (Running b) h = refl
-idle_running (Done b e) h = absurd (both_ways true h refl)
+idle_running p h = grind arith
 
 pub running_begun : (p : Progress) → running p ≡ true → not (waiting p) ≡ true
-running_begun Waiting h = h
-running_begun (Running b) h = refl
-running_begun (Done b e) h = refl
+running_begun p h = grind arith
 
 pub done_begun : (p : Progress) → done p ≡ true → not (waiting p) ≡ true
-done_begun Waiting h = h
-done_begun (Running b) h = refl
-done_begun (Done b e) h = refl
+done_begun p h = grind arith
 
 pub done_idle : (p : Progress) → done p ≡ true → running p ≡ false
-done_idle Waiting h = refl
-done_idle (Running b) h = absurd (both_ways false refl h)
-done_idle (Done b e) h = refl
+done_idle p h = grind arith
 
 pub not_idle : (p : Progress) → not (running p) ≡ true → running p ≡ false
-not_idle Waiting h = refl
-not_idle (Running b) h = absurd (both_ways false refl h)
-not_idle (Done b e) h = refl
+not_idle p h = grind arith
 
 -- a free station has no running step
 free_row : (s : ℕ) (rs : List StepRecord) (i : ℕ) → occupies s rs ≡ false → running (get_or rs i blank).progress ≡ true
@@ -65,26 +53,6 @@ Alone a b = running a.progress ≡ true → running b.progress ≡ true → a.st
 
 abbrev Apart : StepRecord → StepRecord → Type 0
 Apart a b = begun a ≡ true → begun b ≡ true → a.station ≡ b.station → clear a b ≡ true
-
--- one of two steps was over when the other began
-over_first : StepRecord → StepRecord → Bool
-over_first a b = finished a && leb (end_of a.progress) (begin_of b.progress)
-
-clear_left : (a b : StepRecord) → over_first a b ≡ true → clear a b ≡ true
-unfolding over_first
-clear_left a b h = or_left (over_first a b) (over_first b a) h
-
-clear_right : (a b : StepRecord) → over_first b a ≡ true → clear a b ≡ true
-unfolding over_first
-clear_right a b h = or_right (over_first a b) (over_first b a) h
-
-clear_cases : (a b : StepRecord) → clear a b ≡ true → (over_first a b ≡ true) ⊎ (over_first b a ≡ true)
-unfolding over_first
-clear_cases a b h = or_cases (over_first a b) (over_first b a) h
-
-over_done : (a b : StepRecord) → over_first a b ≡ true → finished a ≡ true
-unfolding over_first
-over_done a b h = (and_parts (finished a) (leb (end_of a.progress) (begin_of b.progress)) h).0
 
 -- the parts of what is kept that one changed step leaves to be shown
 record Changes (l : Log) (v n : ℕ) (r : StepRecord) : Type 0 where
@@ -137,13 +105,10 @@ module _ (l : Log) (v n : ℕ) (k : Lasting l) (m : MayBegin l v n) where
   begin_after b lt h = both_ways _ begin_waits (done_begun (step_at l v n).progress (k.ordered v n b lt h))
 
   -- a begun step on the free station is over
-  over : (u a : ℕ) → begun (step_at l u a) ≡ true → (step_at l u a).station ≡ (step_at l v n).station
-      → over_first (step_at l u a) (reached (step_at l v n) (Running l.minute)) ≡ true
-  unfolding over_first
+  over : (u a : ℕ) → begun (step_at l u a) ≡ true → (step_at l u a).station ≡ (step_at l v n).station → finished (step_at l u a) ≡ true
   over u a h e =
-      let rests : running (step_at l u a).progress ≡ false
-      = ⊎_elim (λ g. absurd (free_all (step_at l v n).station l.vehicles u a m.free g e)) (λ g. g) (cases_Bool (running (step_at l u a).progress)) in
-      and_from _ _ (begun_done (step_at l u a).progress h rests) (le-leb _ _ (k.ends u a))
+      ⊎_elim (λ g. absurd (free_all (step_at l v n).station l.vehicles u a m.free g e)) (begun_done (step_at l u a).progress h)
+      (cases_Bool (running (step_at l u a).progress))
 
   pub lasts_begin : Lasting (marked l v n (Running l.minute))
   lasts_begin = lasts_marked l v n (Running l.minute) k m.known m.left (record {
@@ -152,8 +117,8 @@ module _ (l : Log) (v n : ℕ) (k : Lasting l) (m : MayBegin l v n) where
     after = begin_after;
     alone_left = λ u a ne f g e. free_all (step_at l v n).station l.vehicles u a m.free g (sym e);
     alone_right = λ u a ne f g e. free_all (step_at l v n).station l.vehicles u a m.free f e;
-    apart_left = λ u a ne f g e. clear_right _ _ (over u a g (sym e));
-    apart_right = λ u a ne f g e. clear_left _ _ (over u a f e);
+    apart_left = λ u a ne f g e. let o = over u a g (sym e) in let past = k.ends u a in grind arith;
+    apart_right = λ u a ne f g e. let o = over u a f e in let past = k.ends u a in grind arith;
     long = λ f. absurd (both_ways false refl f);
     begin_past = omega arith;
     end_past = omega arith;
@@ -177,12 +142,6 @@ module _ (l : Log) (v n : ℕ) (k : Lasting l) (m : MayFinish l v n) where
   pub finish_after : (b : ℕ) → n < b → begun (step_at l v b) ≡ true → ⊥
   finish_after b lt h = open_ended (k.ordered v n b lt h)
 
-  -- a step that was over when this one began is over still
-  same_begin : (u a : ℕ) → over_first (step_at l u a) (step_at l v n) ≡ true
-      → over_first (step_at l u a) (reached (step_at l v n) (Done (begin_of (step_at l v n).progress) l.minute)) ≡ true
-  unfolding over_first
-  same_begin u a h = h
-
   pub lasts_finish : Lasting (marked l v n (Done (begin_of (step_at l v n).progress) l.minute))
   lasts_finish = lasts_marked l v n (Done (begin_of (step_at l v n).progress) l.minute) k m.known m.within (record {
     before = finish_before;
@@ -190,12 +149,8 @@ module _ (l : Log) (v n : ℕ) (k : Lasting l) (m : MayFinish l v n) where
     after = finish_after;
     alone_left = λ u a ne f g e. both_ways false refl f;
     alone_right = λ u a ne f g e. both_ways false refl g;
-    apart_left = λ u a ne f g e. ⊎_elim
-        (λ h. absurd (open_ended (over_done _ (step_at l u a) h))) (λ h. clear_right _ _ (same_begin u a h))
-        (clear_cases (step_at l v n) (step_at l u a) (k.apart v u n a (λ p q. ne (sym p) (sym q)) started g e));
-    apart_right = λ u a ne f g e. ⊎_elim
-        (λ h. clear_left _ _ (same_begin u a h)) (λ h. absurd (open_ended (over_done _ (step_at l u a) h)))
-        (clear_cases (step_at l u a) (step_at l v n) (k.apart u v a n ne f started e));
+    apart_left = λ u a ne f g e. let o = k.apart v u n a (λ p q. ne (sym p) (sym q)) started g e in let r = finish_runs in grind arith;
+    apart_right = λ u a ne f g e. let o = k.apart u v a n ne f started e in let r = finish_runs in grind arith;
     long = λ f. m.late;
     begin_past = k.begins v n;
     end_past = omega arith;

@@ -1,12 +1,11 @@
 -- Enter keeps what every board keeps.
-use Rattle.std.proofs.Common.{◌≡◌, ℕ, zero, suc, ◌+◌, ◌<◌, ◌≤◌, Bool, true, false, cond, not, ◌⊎◌, List, [], ◌∷◌, ◌++◌, map, length, get_or, Some, None, Option, sym, refl, ap, ◌∙◌, subst, inl, inr, ⊎_elim, arith}
+use Rattle.std.proofs.Common.{◌≡◌, ℕ, zero, suc, ◌+◌, ◌<◌, ◌≤◌, true, ◌⊎◌, List, [], ◌∷◌, ◌++◌, map, length, get_or, None, sym, refl, ap, ◌∙◌, subst, inl, inr, ⊎_elim, arith}
 use Rattle.std.proofs.lemmas.List.{get_or_past, length_push, length-map}
-use Rattle.std.proofs.lemmas.Bool.{both_ways, cases_lt, ltb-false}
-use Rattle.hall.specs.declared.fault.BoardFault.{BoardFault}
+use Rattle.std.proofs.lemmas.Bool.{cases_lt}
 use Rattle.hall.specs.declared.step.Progress.TheVariants.{Waiting}
 use Rattle.hall.specs.declared.step.Step.{Step}
 use Rattle.hall.specs.declared.step.StepRecord.{StepRecord}
-use Rattle.hall.specs.Log.{Log, step_at, blank, waiting, running, begun, finished, begin_of, end_of, least_time}
+use Rattle.hall.specs.Log.{Log, step_at, blank, running, begun, finished, begin_of, end_of, least_time}
 use Rattle.hall.specs.Rules.{step_fault, enter_log, booked}
 use Rattle.hall.specs.Lasting.{Lasting, clear}
 use Rattle.hall.proofs.Keeping.{running_begun, done_begun}
@@ -59,12 +58,10 @@ quiet_enter (v ∷ vs) ss (suc u) i = quiet_enter vs ss u i
 
 -- a step that is begun, before or after, is the same
 same_after : (s s' : StepRecord) → Quiet s s' → begun s' ≡ true → s' ≡ s
-same_after s s' (inl e) h = e
-same_after s s' (inr w) h = absurd (both_ways _ (ap (λ p. not (waiting p)) w.0) h)
+same_after s s' q h = grind arith
 
 same_before : (s s' : StepRecord) → Quiet s s' → begun s ≡ true → s' ≡ s
-same_before s s' (inl e) h = e
-same_before s s' (inr w) h = absurd (both_ways _ (ap (λ p. not (waiting p)) w.1) h)
+same_before s s' q h = grind arith
 
 -- what holds of minutes that are 0 or recorded
 minute_same : (f : StepRecord → ℕ) (s s' : StepRecord) → ((r : StepRecord) → r.progress ≡ Waiting → f r ≡ 0) → Quiet s s' → f s' ≤ f s

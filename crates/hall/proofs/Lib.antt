@@ -1,6 +1,4 @@
 pub mod Leading
-pub mod Views
-pub mod Rows
 pub mod Begins
 pub mod Finishes
 pub mod Enters

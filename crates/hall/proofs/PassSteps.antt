@@ -1,5 +1,5 @@
 -- Pass is accepted exactly where the composition has that time step, within its limits.
-use Rattle.std.proofs.Common.{◌≡◌, ℕ, ◌+◌, ◌-◌, ◌≤◌, false, ltb, Ok, refl, arith}
+use Rattle.std.proofs.Common.{◌≡◌, ℕ, ◌+◌, ◌-◌, ◌≤◌, Ok, refl, arith}
 use mathlib.Core.Path.{fun_ext}
 use Rattle.hall.specs.Job.{config_of, last_begin, Passes}
 use Rattle.hall.specs.Lasting.{Lasting}

@@ -1,16 +1,14 @@
 -- A vehicle is between two steps, or runs one: what then is its next step, its place and its clock.
-use Rattle.std.proofs.Common.{◌≡◌, ℕ, ◌+◌, ◌-◌, ◌<◌, ◌≤◌, Bool, true, false, cond, not, ltb, List, length, get_or, set, sym, refl, ap, ◌∙◌, ⊎_elim, arith}
-use Rattle.std.specs.List.{prefix_len}
-use Rattle.std.proofs.lemmas.List.{get_or_past, get_or-set_same, get_or-set_other, length-set}
+use Rattle.std.proofs.Common.{◌≡◌, ℕ, ◌+◌, ◌-◌, ◌<◌, ◌≤◌, true, false, not, List, length, get_or, sym, refl, ap, ◌∙◌, ⊎_elim, arith}
+use Rattle.std.proofs.lemmas.List.{get_or_past}
 use Rattle.std.proofs.lemmas.List.Sums.{prefix_len_is}
-use Rattle.std.proofs.lemmas.Bool.{cases_lt, cases_order, cases_eq, cases_Bool, both_ways, lt-ltb, le-ltb, ltb-true, ltb-false}
+use Rattle.std.proofs.lemmas.Bool.{cases_lt, cases_eq, cases_Bool, both_ways}
 use Rattle.hall.specs.declared.step.Progress.{Progress}
-use Rattle.hall.specs.declared.step.Progress.TheVariants.{Waiting, Running, Done}
+use Rattle.hall.specs.declared.step.Progress.TheVariants.{Running, Done}
 use Rattle.hall.specs.declared.step.StepRecord.{StepRecord}
-use Rattle.hall.specs.Job.{waits, runs, final, before, place_of, last_begin}
-use Rattle.hall.specs.Log.{Log, vehicle_at, step_at, blank, reached, begun, idle, finished, running, waiting, begin_of, next_step, running_step, steps_with}
+use Rattle.hall.specs.Job.{waits, runs, before, place_of, last_begin}
+use Rattle.hall.specs.Log.{Log, vehicle_at, step_at, blank, begun, idle, finished, running, waiting, begin_of, next_step, running_step, steps_with}
 use Rattle.hall.specs.Lasting.{Lasting}
-use Rattle.hall.proofs.Leading.{leading_below, leading_at}
 use Rattle.hall.proofs.Keeping.{done_begun, done_idle, running_begun}
 use Rattle.hall.proofs.Spots.{length-steps_with, step-steps_with, other-steps_with}
 
@@ -28,9 +26,7 @@ pub record Within (rs : List StepRecord) (n m : ℕ) : Type 0 where
   pub later : (b : ℕ) → n < b → begun (get_or rs b blank) ≡ false
 
 waiting_idle : (p : Progress) → not (waiting p) ≡ false → not (running p) ≡ true
-waiting_idle Waiting h = refl
-waiting_idle (Running b) h = absurd (both_ways true h refl)
-waiting_idle (Done b e) h = refl
+waiting_idle p h = grind arith
 
 module _ (rs : List StepRecord) (n : ℕ) (k : Between rs n) where
   pub between_next : next_step rs ≡ n
@@ -45,9 +41,7 @@ module _ (rs : List StepRecord) (n : ℕ) (k : Between rs n) where
   between_running = prefix_len_is idle rs (length rs) blank (omega arith) (λ i lt. rests i) (λ lt. absurd (omega arith))
 
   pub between_place : place_of rs ≡ before (length rs) n
-  between_place =
-      let t : ltb (running_step rs) (length rs) ≡ false = le-ltb _ _ (omega (arith, between_running)) in
-      simp t (ap (before (length rs)) between_next)
+  between_place = let e = between_running in let f = between_next in grind arith
 
 module _ (rs : List StepRecord) (n m : ℕ) (k : Within rs n m) where
   pub within_next : next_step rs ≡ n + 1
@@ -63,9 +57,7 @@ module _ (rs : List StepRecord) (n m : ℕ) (k : Within rs n m) where
       (λ lt. ap (λ p. not (running p)) k.here)
 
   pub within_place : place_of rs ≡ runs n
-  within_place =
-      let t : ltb (running_step rs) (length rs) ≡ true = lt-ltb _ _ (omega (arith, within_running, k.few)) in
-      simp t (ap runs within_running)
+  within_place = let e = within_running in grind arith
 
   pub within_last : last_begin rs ≡ m
   within_last =
@@ -80,24 +72,10 @@ between_last rs n k =
 
 -- which place it is tells which step runs or comes next
 pub place_runs : (rs : List StepRecord) (i : ℕ) → place_of rs ≡ runs i → (running_step rs ≡ i) × (i < length rs)
-place_runs rs i h =
-    let k = by (ltb (running_step rs) (length rs)) (ltb (next_step rs) (length rs)) (running_step rs) (next_step rs) h in
-    (k.1, omega (arith, ltb-true _ _ k.0, k.1))
-  where
-    by : (b c : Bool) (r n : ℕ) → cond b (runs r) (cond c (waits n) final) ≡ runs i → (b ≡ true) × (r ≡ i)
-    by true c r n h = (refl, cc)
-    by false true r n h = let z : ◌≡◌ {A = ℕ} 0 1 = cc in absurd (omega arith)
-    by false false r n h = let z : ◌≡◌ {A = ℕ} 0 1 = cc in absurd (omega arith)
+place_runs rs i h = (grind arith, grind arith)
 
 pub place_waits : (rs : List StepRecord) (i : ℕ) → place_of rs ≡ waits i → (length rs ≤ running_step rs) × (next_step rs ≡ i) × (i < length rs)
-place_waits rs i h =
-    let k = by (ltb (running_step rs) (length rs)) (ltb (next_step rs) (length rs)) (running_step rs) (next_step rs) h in
-    (ltb-false _ _ k.0, k.2, omega (arith, ltb-true _ _ k.1, k.2))
-  where
-    by : (b c : Bool) (r n : ℕ) → cond b (runs r) (cond c (waits n) final) ≡ waits i → (b ≡ false) × (c ≡ true) × (n ≡ i)
-    by true c r n h = let z : ◌≡◌ {A = ℕ} 0 1 = cc in absurd (omega arith)
-    by false true r n h = (refl, refl, cc)
-    by false false r n h = let z : ◌≡◌ {A = ℕ} 0 1 = cc in absurd (omega arith)
+place_waits rs i h = (grind arith, grind arith, grind arith)
 
 -- a vehicle between two steps that begins one runs it
 pub begun_within : (rs : List StepRecord) (n m : ℕ) → n < length rs → Between rs n
@@ -121,9 +99,7 @@ finished_between rs n m e k = record {
 }
 
 running_is : (p : Progress) → running p ≡ true → p ≡ Running (begin_of p)
-running_is Waiting h = absurd (both_ways false refl h)
-running_is (Running b) h = refl
-running_is (Done b e) h = absurd (both_ways false refl h)
+running_is p h = grind arith
 
 -- a vehicle of which a step runs, runs that one
 pub running_within : (l : Log) → Lasting l → (u i : ℕ) → running (step_at l u i).progress ≡ true

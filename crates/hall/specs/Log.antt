@@ -1,6 +1,6 @@
 -- The hall log: a minute, which is now, and the steps of each vehicle with the begins and ends recorded of them.
 use Rattle.std.specs.Prelude.{ℕ, Bool, true, false, not, ◌&&◌, List, [], ◌==◌, slice_index_or, slice_set}
-use Rattle.std.specs.List.{list_any, prefix_len}
+use Rattle.std.specs.List.{list_any, position_or_len}
 use Rattle.hall.specs.declared.step.Progress.{Progress}
 use Rattle.hall.specs.declared.step.Progress.TheVariants.{Waiting, Running, Done}
 use Rattle.hall.specs.declared.step.StepRecord.{StepRecord}
@@ -57,11 +57,11 @@ least_time length = length
 
 -- the number of the vehicle's next step, which is the first that waits; the number of its steps where none is left
 abbrev pub next_step : List StepRecord → ℕ
-next_step rs = prefix_len begun rs
+next_step rs = position_or_len (λ r. waiting r.progress) rs
 
 -- the number of the vehicle's running step, or the number of its steps where none runs
 abbrev pub running_step : List StepRecord → ℕ
-running_step rs = prefix_len idle rs
+running_step rs = position_or_len (λ r. running r.progress) rs
 
 -- what is read past a vehicle's last step: a step that waits
 abbrev pub blank : StepRecord

@@ -1,5 +1,5 @@
 -- What the board's table stands for.
-use Rattle.std.specs.Prelude.{ℕ, List, map, take, Some, None, Option, nat_lt, if◌then◌else◌}
+use Rattle.std.specs.Prelude.{ℕ, List, map, take}
 use Rattle.hall.specs.Log.{Log}
 use Rattle.hall.specs.declared.step.StepRecord.{StepRecord}
 use Rattle.hall.specs.declared.vehicle.Vehicle.{Vehicle}
@@ -7,10 +7,6 @@ use Rattle.hall.specs.declared.vehicle.Vehicle.{Vehicle}
 -- the steps of a vehicle
 abbrev pub steps_of : Vehicle → List StepRecord
 steps_of v = v.steps.items
-
--- step n of a vehicle with k steps, if it has so many
-abbrev pub step_in : ℕ → ℕ → Option ℕ
-step_in k n = if nat_lt n k then Some n else None
 
 -- the log of a table of which the first records are vehicles
 abbrev pub log_of : List Vehicle → ℕ → ℕ → Log

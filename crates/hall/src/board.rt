@@ -7,15 +7,14 @@ use crate::vehicle::Vehicle;
 
 pub mod calls;
 
-// The first `count` records of the table are the vehicles in the hall, and `minute` is now. What every board keeps,
-// whatever was called on it, is stated by the ghost fields: `lasting` in the words of the hall, the others on the table.
-// The table is a plain array of vehicle records, and begin and finish lend one record of it in place.
+// The first `count` records of the table are the vehicles in the hall, and `minute` is now. The table is a plain array of
+// vehicle records, by the project's rules, and begin and finish lend one record of it in place. What every board keeps,
+// whatever was called on it, is stated by the ghost fields: `few` of the table, `lasting` in the words of the hall.
 #[derive(Clone, Copy)]
 pub struct Board {
     vehicles: [Vehicle; 24],
     count: usize,
     minute: u32,
     ghost few: { count ≤ 24 },
-    ghost day: { minute ≤ 1000000 },
     ghost lasting: { ∥ Lasting (log_of vehicles count minute) ∥₁ },
 }

@@ -21,7 +21,7 @@ pub enum BoardFault {
 }
 
 impl BoardFault {
-    // The number of the refusal.
+    // The number of the refusal. The rules fix these numbers, and a case that holds a step's number has no discriminant.
     pub fn refusal(&self) -> u32
         ensures { result ≡ refusal_of self.now }
     {
@@ -41,7 +41,7 @@ impl BoardFault {
         }
     }
 
-    // The field that the refusal is about: 0 is the call itself, and its arguments are counted from 1.
+    // The field that the refusal is about: 0 is the call itself, and its arguments are counted from 1, as the rules fix.
     pub fn field(&self) -> usize
         ensures { result ≡ field_of self.now }
     {

@@ -19,7 +19,8 @@ pub enum Progress {
 }
 
 impl Progress {
-    // The recorded begin; 0 where none is recorded.
+    // The recorded begin; 0 where none is recorded, as in the rules. It is read of steps that run: a pattern at each read
+    // would need an arm for the others, which never runs.
     pub(crate) fn begin(self) -> u32
         ensures { result ≡ begin_of self }
     {

@@ -1,14 +1,13 @@
 // A vehicle in the hall.
-ghost use Rattle.std.specs.Prelude.{◌≡◌, ◌<◌, ◌≤◌, map, length, slice_index_or};
-ghost use Rattle.hall.specs.Log.{next_step, running_step, occupies, blank, steps_with, begin_of};
+ghost use Rattle.std.specs.Prelude.{◌≡◌, ◌<◌, ◌≤◌, map, length, position, slice_index_or};
+ghost use Rattle.hall.specs.Log.{waiting, running, next_step, occupies, blank, steps_with, begin_of};
 ghost use Rattle.hall.specs.Rules.{booked, step_fault, unless};
-ghost use Rattle.hall.specs.View.{steps_of, step_in};
+ghost use Rattle.hall.specs.View.{steps_of};
 ghost use Rattle.hall.specs.declared.step.Progress.TheVariants.{Running, Done};
-
-use short::Short;
 
 use crate::fault::BoardFault;
 use crate::step::{Progress, Step, StepRecord};
+use short::Short;
 
 // Stations are numbered from 0 up to this one.
 const LAST_STATION: u32 = 15;
@@ -25,7 +24,7 @@ pub struct Vehicle {
 impl Vehicle {
     // The number of the next step to begin, where one is left.
     pub(crate) fn next(&self) -> Option<usize>
-        ensures { result ≡ step_in (length (steps_of self.now)) (next_step (steps_of self.now)) }
+        ensures { result ≡ position (λ r. waiting r.progress) (steps_of self.now) }
     {
         self.steps
             .as_slice()
@@ -42,22 +41,22 @@ impl Vehicle {
 
     // The number of the running step, where one runs.
     pub(crate) fn running(&self) -> Option<usize>
-        ensures { result ≡ step_in (length (steps_of self.now)) (running_step (steps_of self.now)) }
+        ensures { result ≡ position (λ r. running r.progress) (steps_of self.now) }
     {
-        self.steps
-            .as_slice()
-            .iter()
-            .position(|record| matches!(record.progress, Progress::Running { .. }))
+        self.steps.as_slice().iter().position(|record| matches!(
+            record.progress,
+            Progress::Running { .. }
+        ))
     }
 
     // Whether a step of the vehicle runs on the station.
     pub(crate) fn occupies(&self, station: u32) -> bool
         ensures { result ≡ occupies station (steps_of self.now) }
     {
-        self.steps
-            .as_slice()
-            .iter()
-            .any(|record| matches!(record.progress, Progress::Running { .. }) && record.station == station)
+        self.steps.as_slice().iter().any(|record| matches!(
+            record.progress,
+            Progress::Running { .. }
+        ) && record.station == station)
     }
 
     // Writes the begin of step `j`.
@@ -73,7 +72,8 @@ impl Vehicle {
     // Writes the end of step `j`.
     pub(crate) fn end(&mut self, j: usize, minute: u32)
         requires { j < length (steps_of self.old) }
-        ensures steps { steps_of self.new ≡ steps_with (steps_of self.old) j (Done (begin_of (slice_index_or (steps_of self.old) j blank).progress) minute) }
+        ensures steps { steps_of self.new
+            ≡ steps_with (steps_of self.old) j (Done (begin_of (slice_index_or (steps_of self.old) j blank).progress) minute) }
     {
         let record = self.steps.as_slice()[j];
         let begin = record.progress.begin();

@@ -62,7 +62,7 @@ impl Board {
     pub fn begun(&self, vehicle: u32) -> usize
         ensures value { result ≡ next_step (vehicle_at (hall_log self.now) vehicle) }
     {
-        self.vehicle(vehicle).map_or(0, |v| v.begun())
+        self.vehicle(vehicle).map_or(0, Vehicle::begun)
     }
 
     // Adds a vehicle with these steps, and answers its number.
@@ -72,13 +72,13 @@ impl Board {
         if self.count >= MOST_VEHICLES {
             return Err(BoardFault::BoardFull);
         }
-        if steps.len() < 1 || steps.len() > MOST_STEPS {
+        if steps.is_empty() || steps.len() > MOST_STEPS {
             return Err(BoardFault::StepCount);
         }
         step_fault(steps)?;
         let number = self.count;
         self.vehicles[number] = Vehicle::booked(steps);
-        self.count = number + 1;
+        self.count += 1;
         Ok(number as u32)
     }
 
@@ -109,10 +109,8 @@ impl Board {
         ensures called { Called self.old (begin vehicle) result self.new }
         ensures step { Exactly (Begins (hall_log self.old) vehicle) result (config_of (hall_log self.new)) }
     {
-        let minute = self.minute;
         let next = self.may_begin(vehicle)?;
-        let vehicles = &mut self.vehicles;
-        vehicles[vehicle as usize].start(next, minute);
+        self.vehicles[vehicle as usize].start(next, self.minute);
         Ok(next as u32)
     }
 
@@ -136,10 +134,8 @@ impl Board {
         ensures called { Called self.old (finish vehicle) result self.new }
         ensures step { Exactly (Finishes (hall_log self.old) vehicle) result (config_of (hall_log self.new)) }
     {
-        let minute = self.minute;
         let running = self.may_finish(vehicle)?;
-        let vehicles = &mut self.vehicles;
-        vehicles[vehicle as usize].end(running, minute);
+        self.vehicles[vehicle as usize].end(running, self.minute);
         Ok(running as u32)
     }
 

@@ -10,18 +10,17 @@ use Rattle.hall.proofs.Marks.{Wrote, begin_marks, wrote}
 use Rattle.hall.proofs.board.Board.begin.Goals as goal
 use Rattle.hall.proofs.board.Board.begin.Goals.{After-start}
 
-pub overflow_cast-result : goal.overflow_cast-result
-overflow_cast-result c =
-    let few = (begin_marks (hall_log c.args.self.now) c.args.vehicle c.in_ok-next.next (kept c.args.self.now) c.in_ok-next.ensures).few in
-    omega arith
-
-written : (c : After-start) → Wrote c.args.self.now (begin c.args.vehicle) (Begins (hall_log c.args.self.now) c.args.vehicle c.in_ok-next.next) c.args.vehicle c.start.new.self
+written : (c : After-start)
+    → Wrote c.args.self.now (begin c.args.vehicle) (Begins (hall_log c.args.self.now) c.args.vehicle c.in_ok-next.next) c.args.vehicle c.in_ok-next.next c.start.new.self
 written c =
     let b = c.args.self.now in
     let v = c.args.vehicle in
     let n = c.in_ok-next.next in
-    wrote b (begin v) (Begins (hall_log b) v n) v n (λ r. Running c.args.self.now.minute) c.index-vehicles-vehicle.result c.start.new.self
+    wrote b (begin v) (Begins (hall_log b) v n) v n (λ r. Running c.args.self.now.minute) c.index-self-vehicle.result c.start.new.self
     (begin_marks (hall_log b) v n (kept b) c.in_ok-next.ensures) c.start.ensures.steps
+
+pub overflow_cast-result : goal.overflow_cast-result
+overflow_cast-result c = let few = (written (goal.at.overflow_cast-result c).After-start).few in omega arith
 
 pub invariant_of-self-clause-lasting : goal.invariant_of-self-clause-lasting
 invariant_of-self-clause-lasting c = (written (goal.at.invariant_of-self-clause-lasting c).After-start).lasts

@@ -1,4 +1,4 @@
-use Rattle.std.proofs.Common.{◌≡◌, ◌<◌, length, take, None, sym, subst, arith}
+use Rattle.std.proofs.Common.{◌≡◌, ◌<◌, ◌≤◌, length, take, None, sym, subst, arith}
 use Rattle.std.proofs.lemmas.List.{length-map, length-take}
 use Rattle.hall.specs.Hall.{hall_log}
 use Rattle.hall.specs.Lasting.{Lasting}
@@ -14,6 +14,7 @@ invariant_of-self-clause-lasting c =
     let b = c.args.self.now in
     let ss = c.args.steps.now in
     let room : length (hall_log b).vehicles < 24 = omega (arith, length-map (take b.count b.vehicles) steps_of, length-take b.count b.vehicles) in
+    let some : 1 ≤ length ss = grind arith in
     let none : step_fault 0 ss ≡ None = grind arith in
     subst (λ l. ∥ Lasting l ∥₁) (sym (entered b.vehicles b.count b.minute c.booked.result ss (omega arith) c.booked.ensures.steps))
-    ∣ lasts_enter (hall_log b) ss (kept b) room (omega arith) (omega arith) none ∣₁
+    ∣ lasts_enter (hall_log b) ss (kept b) room some (omega arith) none ∣₁

@@ -11,18 +11,17 @@ use Rattle.hall.proofs.Marks.{Wrote, finish_marks, wrote}
 use Rattle.hall.proofs.board.Board.finish.Goals as goal
 use Rattle.hall.proofs.board.Board.finish.Goals.{After-end}
 
-pub overflow_cast-result : goal.overflow_cast-result
-overflow_cast-result c =
-    let few = (finish_marks (hall_log c.args.self.now) c.args.vehicle c.in_ok-running.running (kept c.args.self.now) c.in_ok-running.ensures).few in
-    omega arith
-
-written : (c : After-end) → Wrote c.args.self.now (finish c.args.vehicle) (Finishes (hall_log c.args.self.now) c.args.vehicle c.in_ok-running.running) c.args.vehicle c.end.new.self
+written : (c : After-end)
+    → Wrote c.args.self.now (finish c.args.vehicle) (Finishes (hall_log c.args.self.now) c.args.vehicle c.in_ok-running.running) c.args.vehicle c.in_ok-running.running c.end.new.self
 written c =
     let b = c.args.self.now in
     let v = c.args.vehicle in
     let n = c.in_ok-running.running in
-    wrote b (finish v) (Finishes (hall_log b) v n) v n (λ r. Done (begin_of r.progress) c.args.self.now.minute) c.index-vehicles-vehicle.result c.end.new.self
+    wrote b (finish v) (Finishes (hall_log b) v n) v n (λ r. Done (begin_of r.progress) c.args.self.now.minute) c.index-self-vehicle.result c.end.new.self
     (finish_marks (hall_log b) v n (kept b) c.in_ok-running.ensures) c.end.ensures.steps
+
+pub overflow_cast-result : goal.overflow_cast-result
+overflow_cast-result c = let few = (written (goal.at.overflow_cast-result c).After-end).few in omega arith
 
 pub invariant_of-self-clause-lasting : goal.invariant_of-self-clause-lasting
 invariant_of-self-clause-lasting c = (written (goal.at.invariant_of-self-clause-lasting c).After-end).lasts
