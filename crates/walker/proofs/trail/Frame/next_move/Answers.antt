@@ -15,7 +15,7 @@ returns-in-Some g c =
     let e = c.in-Some.ensures.value in
     record {
       found = (
-        can_move E J p v c.in-Some.begin (answer_ends permits (g.H.Hours.limits c.args.by.now.hours.now)) c.args.by.now.ok c.loop-v-test.true (sym e),
+        can_move E J p v c.in-Some.begin (answer_ends permits (g.met.H.Hours.limits c.args.by.now.hours.now)) c.args.by.now.ok c.loop-v-test.true (sym e),
         λ rs. c.loop-v.invariant rs ∙ children_more E J p rs v c.loop-v-test.true ∙ ap (λ o. child_by J p rs v o ++ children_from E J p rs (v + 1)) (sym e),
       );
     }
