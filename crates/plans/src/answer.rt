@@ -3,7 +3,7 @@ ghost use Rattle.std.specs.Prelude.{◌≡◌};
 ghost use Rattle.plans.specs.Outcomes.{number_of, score_in, refusal_of};
 
 // How the search stands: ended with a best plan or without any plan, or not ended, with a plan so far or without one.
-#[derive(Clone, Copy, Debug, PartialEq)]
+#[derive(Clone, Copy, Debug, PartialEq, Eq)]
 pub enum Outcome<S> {
     Best(S),
     NoPlan,
@@ -36,14 +36,14 @@ impl<S: Copy> Outcome<S> {
     }
 }
 
-#[derive(Clone, Copy, Debug, PartialEq)]
+#[derive(Clone, Copy, Debug, PartialEq, Eq)]
 pub struct Answer<S> {
     pub outcome: Outcome<S>,
     pub visits: u64,
 }
 
 // Why a search is not gone on with, or its plan not written: each case has the refusal's number.
-#[derive(Clone, Copy, Debug, PartialEq)]
+#[derive(Clone, Copy, Debug, PartialEq, Eq)]
 pub enum PlanFault {
     BudgetTooLarge = 30,
     RowsTooShort = 31,
