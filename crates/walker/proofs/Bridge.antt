@@ -56,9 +56,6 @@ module _ {S : Type 0} (H : Hours) (G : Goal S) (L : Log) (J : List Vehicle) (t :
   unfolding visit_first effect
   visit_top_sees d ds h b n e (f, fs) = at (dropped G L b (view_due d)) (is_leaf L (view_due d)) _ _ (beaten_is h b e d) (sym (leaf_is L J t d.at d.rows))
     where
-      opens : Effect
-      opens = record { due = all-children H L (view_due d); best = b }
-
       at : (x y x' y' : Bool) → x' ≡ x → y' ≡ y →
           Sees G L
           (cond x' (stage ds h (n + 1))

@@ -12,7 +12,7 @@ use Rattle.walker.specs.declared.walker.Walker.{Walker}
 use Rattle.walker.specs.Moves.{steps_left}
 use Rattle.walker.specs.Bounds.{bound_in}
 use Rattle.walker.specs.Trail.{Due, children_from, no_frame, frame_in, top_of, below, due_upto, due_left, Opened, Popped, TrailOk}
-use Rattle.walker.specs.Visits.{Held, Stage, stage, held_in, score_held, visit_top, visit_due, visit_once, visits_of, stage_of, stage_left}
+use Rattle.walker.specs.Visits.{Held, stage, held_in, score_held, visit_top, visit_due, visit_once, visits_of, stage_of, stage_left}
 use Rattle.walker.proofs.Trails.{below_same, left_popped}
 
 -- the top position has steps left exactly where it is fewer moves below the root than there are steps
@@ -80,9 +80,3 @@ pub visits_end : {S : Type 0} (H : Hours) (G : Goal S) (J : List Vehicle) (w : W
 visits_end H G J w k z =
     let e : stage_of H J w ≡ stage [] (held_in w) w.visits = ap (λ n. stage (due_upto H.earliest J w.trail.frames.items w.trail.path.items n) (held_in w) w.visits) z in
     ap (visits_of H G J k) e ∙ visits_done H G J k (held_in w) w.visits ∙ sym e
-
-pub visits_more : {S : Type 0} (H : Hours) (G : Goal S) (J : List Vehicle) (s t : Stage S) (n i : ℕ) → i < n → t ≡ visit_once H G J s →
-    visits_of H G J (n - (i + 1)) t ≡ visits_of H G J (n - i) s
-visits_more H G J s t n i lt e =
-    let k : n - i ≡ suc (n - (i + 1)) = omega arith in
-    ap (visits_of H G J (n - (i + 1))) e ∙ sym (ap (λ m. visits_of H G J m s) k)

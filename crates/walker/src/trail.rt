@@ -68,7 +68,13 @@ impl Trail {
     {
         let mut at = self.top().at;
         let d = self.frames.as_slice().len() - 1;
-        self.frames.set(d, Frame { at, next: m.vehicle + 1 });
+        self.frames.set(
+            d,
+            Frame {
+                at,
+                next: m.vehicle + 1,
+            },
+        );
         self.path.push(at.row(fleet, m.vehicle, m.begin));
         at.advance(fleet, m.vehicle, m.begin);
         self.frames.push(Frame { at, next: 0 });
