@@ -1,5 +1,5 @@
--- Laws of put, max_below and sum_below, and that no list with a first element is empty.
-use Rattle.std.proofs.Common.{◌≡◌, ℕ, zero, suc, ◌+◌, ◌<◌, ◌≤◌, max, eqb, ◌⊎◌, List, [], ◌∷◌, refl, ap, inl, inr, arith}
+-- Laws of put, max_below and sum_below.
+use Rattle.std.proofs.Common.{◌≡◌, ℕ, zero, suc, ◌+◌, ◌<◌, ◌≤◌, max, eqb, ◌⊎◌, refl, ap, inl, inr, arith}
 use Rattle.std.proofs.lemmas.Bool.{eq-eqb, ne_eqb, cases_lt, cond-true, cond-false}
 use Rattle.plans.specs.Plan.{put}
 use Rattle.plans.specs.Position.{max_below, sum_below}
@@ -75,6 +75,3 @@ sum_below_none (suc n) f h =
     let p = sum_below_none n f (λ i l. h i (omega arith)) in
     let q = h n (omega arith) in
     omega arith
-
-pub cons_nil : {A : Type 0} (x : A) (xs : List A) → x ∷ xs ≡ [] → ⊥
-cons_nil x xs e = let z : ◌≡◌ {A = ℕ} 0 1 = cc in omega arith

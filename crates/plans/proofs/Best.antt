@@ -1,11 +1,13 @@
 -- The branch-and-bound invariant: each leaf is no better than the best held, or still to be reached from a due position.
-use Rattle.std.proofs.Common.{◌≡◌, ℕ, zero, suc, ◌<◌, ◌≤◌, true, false, ◌⊎◌, List, [], ◌∷◌, ◌++◌, Some, None, Option, sym, refl, ap, ◌∙◌, subst, inl, inr, arith}
+use Rattle.std.proofs.Common.{option_to_list, ◌≡◌, ℕ, zero, suc, ◌<◌, ◌≤◌, true, false, ◌⊎◌, List, [], ◌∷◌, ◌++◌, Some, None, Option, sym, refl, ap, ◌∙◌, subst, inl, inr, arith}
+use Rattle.std.specs.List.{AllByRecursion}
+use Rattle.std.proofs.ByRecursion.{All-append}
 use Rattle.std.proofs.lemmas.Bool.{false≢true, both_ways}
 use Rattle.hall.specs.Log.{Log}
 use Rattle.plans.specs.Steps.{fleet}
 use Rattle.plans.specs.Meanings.{Hours, Goal, Lawful}
 use Rattle.plans.specs.Position.{Position, root, move, left, bound}
-use Rattle.plans.specs.Walk.{list_of, children_below, children, State, dropped, visit_first, visit, after, begins, walk}
+use Rattle.plans.specs.Walk.{children_below, children, State, dropped, visit_first, visit, after, begins, walk}
 use Rattle.plans.proofs.Base.{below_suc}
 use Rattle.plans.proofs.Logs.{LogOk}
 use Rattle.plans.proofs.Opening.{HoursOk}
@@ -13,7 +15,7 @@ use Rattle.plans.proofs.Reaching.{Child, Reach, here, go, Leaf, reach_child}
 use Rattle.plans.proofs.Moves.{moving, left_less, effect_cases}
 use Rattle.plans.proofs.Limits.{bounding}
 
--- one of the list's elements has the property
+-- one of the list's elements has the property; by recursion, as the walk makes its lists, where the library's Any goes by index
 pub data SomeOf (A : Type 0) (F : A → Type 0) : List A → Type 0 where
   first : {x : A} {xs : List A} → F x → SomeOf A F (x ∷ xs)
   later : {x : A} {xs : List A} → SomeOf A F xs → SomeOf A F (x ∷ xs)
@@ -37,16 +39,16 @@ of_right (x ∷ xs) ys h = later (of_right xs ys h)
 -- a child by a vehicle is among the children
 child_below : (H : Hours) (L : Log) (P Q : Position) (n v : ℕ) → v < n → move H L P v ≡ Some Q → (F : Position → Type 0) → F Q
     → SomeOf Position F (children_below H L P n)
-unfolding children_below list_of
+unfolding children_below
 child_below H L P Q zero v l e F h = absurd (omega arith)
 child_below H L P Q (suc n) v l e F h = cases (λ (p : v < n). child_below H L P Q n v p e F h) (below_suc v n l)
   where
     cases : (v < n → SomeOf Position F (children_below H L P n)) → (v < n) ⊎ (v ≡ n)
-        → SomeOf Position F (children_below H L P n ++ list_of (move H L P n))
-    cases ih (inl p) = of_left (children_below H L P n) (list_of (move H L P n)) (ih p)
+        → SomeOf Position F (children_below H L P n ++ option_to_list (move H L P n))
+    cases ih (inl p) = of_left (children_below H L P n) (option_to_list (move H L P n)) (ih p)
     cases ih (inr p) =
-        let x : list_of (move H L P n) ≡ Q ∷ [] = ap (λ u. list_of (move H L P u)) (sym p) ∙ ap list_of e in
-        of_right (children_below H L P n) (list_of (move H L P n)) (subst (SomeOf Position F) (sym x) (first h))
+        let x : option_to_list (move H L P n) ≡ Q ∷ [] = ap (λ u. option_to_list (move H L P u)) (sym p) ∙ ap option_to_list e in
+        of_right (children_below H L P n) (option_to_list (move H L P n)) (subst (SomeOf Position F) (sym x) (first h))
 
 child_among : (H : Hours) (L : Log) (P Q : Position) → Child H L P Q → (F : Position → Type 0) → F Q
     → SomeOf Position F (children H L P)
@@ -136,42 +138,34 @@ best_of_leaves H ho G gk L ok k e =
         [ inl c ↦ c | inr s ↦ absurd (none_of (subst (SomeOf Position (Reach H L R)) e s)) ]
 
 -- the other way: what is due is reached from the root, and what is held is a leaf
-pub data AllOf (A : Type 0) (F : A → Type 0) : List A → Type 0 where
-  none : AllOf A F []
-  more : {x : A} {xs : List A} → F x → AllOf A F xs → AllOf A F (x ∷ xs)
-
-pub all_append : {A : Type 0} {F : A → Type 0} {xs ys : List A} → AllOf A F xs → AllOf A F ys → AllOf A F (xs ++ ys)
-all_append none b = b
-all_append (more x a) b = more x (all_append a b)
-
 module _ {S : Type 0} (H : Hours) (G : Goal S) (L : Log) where
   abbrev Reached : Position → Type 0
   Reached P = Reach H L P (root L)
 
-  children_reached : (P : Position) → Reached P → (n : ℕ) → n ≤ fleet L → AllOf Position Reached (children_below H L P n)
-  unfolding children_below list_of
-  children_reached P r zero h = none
-  children_reached P r (suc n) h = all_append (children_reached P r n (omega arith)) (one (move H L P n) refl)
+  children_reached : (P : Position) → Reached P → (n : ℕ) → n ≤ fleet L → AllByRecursion Reached (children_below H L P n)
+  unfolding children_below
+  children_reached P r zero h = tt
+  children_reached P r (suc n) h = All-append Reached (children_below H L P n) (option_to_list (move H L P n)) (children_reached P r n (omega arith)) (one (move H L P n) refl)
     where
-      one : (o : Option Position) → move H L P n ≡ o → AllOf Position Reached (list_of o)
-      one None e = none
-      one (Some Q) e = more (reach_child H L P Q (root L) r (record { vehicle = n; known = omega arith; is = e })) none
+      one : (o : Option Position) → move H L P n ≡ o → AllByRecursion Reached (option_to_list o)
+      one None e = tt
+      one (Some Q) e = (reach_child H L P Q (root L) r (record { vehicle = n; known = omega arith; is = e }), tt)
 
   abbrev Holds : Option Position → Type 0
   Holds None = Unit {0}
   Holds (Some Q) = Leaf H L Q
 
-  visit_reached : (ds : List Position) (b : Option Position) (n : ℕ) → AllOf Position Reached ds → Holds b
-      → AllOf Position Reached (visit_first H G L ds b n).due × Holds (visit_first H G L ds b n).best
+  visit_reached : (ds : List Position) (b : Option Position) (n : ℕ) → AllByRecursion Reached ds → Holds b
+      → AllByRecursion Reached (visit_first H G L ds b n).due × Holds (visit_first H G L ds b n).best
   unfolding visit_first children
-  visit_reached [] b n none h = (none, h)
-  visit_reached (P ∷ ds) b n (more r a) h =
-      effect_cases H G L b P (λ E. AllOf Position Reached (E.due ++ ds) × Holds E.best)
+  visit_reached [] b n a h = (tt, h)
+  visit_reached (P ∷ ds) b n (r, a) h =
+      effect_cases H G L b P (λ E. AllByRecursion Reached (E.due ++ ds) × Holds E.best)
       (λ d. (a, h))
       (λ d e. (a, record { reached = r; none_left = e }))
-      (λ d e. (all_append (children_reached P r (fleet L) (omega arith)) a, h))
+      (λ d e. (All-append Reached (children H L P) ds (children_reached P r (fleet L) (omega arith)) a, h))
 
-  after_reached : (k : ℕ) (s : State) → AllOf Position Reached s.due → Holds s.best → Holds (after H G L k s).best
+  after_reached : (k : ℕ) (s : State) → AllByRecursion Reached s.due → Holds s.best → Holds (after H G L k s).best
   unfolding after visit
   after_reached zero s a h = h
   after_reached (suc k) s a h =
@@ -180,7 +174,7 @@ module _ {S : Type 0} (H : Hours) (G : Goal S) (L : Log) where
 
   walk_holds : (k : ℕ) → Holds (walk H G L k).best
   unfolding walk begins
-  walk_holds k = after_reached k (begins L) (more here none) tt
+  walk_holds k = after_reached k (begins L) (here, tt) tt
 
 -- the best held is a leaf, whether or not the walk has ended
 pub best_is_leaf : (S : Type 0) (H : Hours) (G : Goal S) (L : Log) (k : ℕ) (Q : Position)

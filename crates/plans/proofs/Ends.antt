@@ -1,12 +1,11 @@
 -- The walk ends within the tree's size, and a budget stops it exactly where it says.
-use Rattle.std.proofs.Common.{◌≡◌, ℕ, zero, suc, ◌+◌, ◌*◌, ◌^◌, ◌<◌, ◌≤◌, min, ◌↔◌, List, [], ◌∷◌, ◌++◌, Some, None, Option, refl, ap, ◌∙◌, mul_comm, one-mul, pow-suc, mul-add, arith}
+use Rattle.std.proofs.Common.{option_to_list, ◌≡◌, ℕ, zero, suc, ◌+◌, ◌*◌, ◌^◌, ◌<◌, ◌≤◌, min, ◌↔◌, List, [], ◌∷◌, ◌++◌, Some, None, Option, refl, ap, ◌∙◌, mul_comm, one-mul, pow-suc, mul-add, arith}
 use native.Mathlib.Nat.{pow-zero}
 use Rattle.hall.specs.Log.{Log}
 use Rattle.plans.specs.Steps.{fleet}
 use Rattle.plans.specs.Meanings.{Hours, Goal}
 use Rattle.plans.specs.Position.{sum_below, Position, root, move, left}
-use Rattle.plans.specs.Walk.{list_of, children_below, children, State, effect, visit_first, visit, after, begins, walk, tree, FullWalk, full_visits}
-use Rattle.plans.proofs.Base.{cons_nil}
+use Rattle.plans.specs.Walk.{children_below, children, State, effect, visit_first, visit, after, begins, walk, tree, FullWalk, full_visits}
 use Rattle.plans.proofs.Moves.{moving, left_less, effect_cases}
 
 -- the visits that the due positions can cost at most
@@ -47,15 +46,15 @@ child_left H L P Q v l e =
 
 children_cost : (H : Hours) (L : Log) (P : Position) (r : ℕ) → left L P ≡ suc r → (n : ℕ) → n ≤ fleet L
     → cost L (children_below H L P n) ≤ n * tree (fleet L) r
-unfolding children_below list_of cost
+unfolding children_below cost
 children_cost H L P r e zero h = omega arith
 children_cost H L P r e (suc n) h =
     let ih = children_cost H L P r e n (omega arith) in
-    let a = cost_append L (children_below H L P n) (list_of (move H L P n)) in
+    let a = cost_append L (children_below H L P n) (option_to_list (move H L P n)) in
     let o = one (move H L P n) refl in
     omega arith
   where
-    one : (o : Option Position) → move H L P n ≡ o → cost L (list_of o) ≤ tree (fleet L) r
+    one : (o : Option Position) → move H L P n ≡ o → cost L (option_to_list o) ≤ tree (fleet L) r
     one None x = omega arith
     one (Some Q) x =
         let c = child_left H L P Q n (omega arith) x in
@@ -120,10 +119,10 @@ module _ {S : Type 0} (H : Hours) (G : Goal S) (L : Log) where
       let x = ap (λ (s : State). s.visits) (stays k b n) in
       let y = ap (λ (s : State). s.visits) (stays m b n) in
       (omega arith, (λ _. omega arith, λ _. ap (λ (s : State). s.due) (stays k b n)))
-  budget zero (P ∷ ds) b n e k = absurd (cons_nil P ds e)
+  budget zero (P ∷ ds) b n e k = cc
   budget (suc m) (P ∷ ds) b n e zero =
       let w = (visits_within m ((effect H G L b P).due ++ ds) (effect H G L b P).best (suc n)).0 in
-      (omega arith, (λ x. absurd (cons_nil P ds x), λ x. absurd (omega arith)))
+      (omega arith, (λ x. cc, λ x. absurd (omega arith)))
   budget (suc m) (P ∷ ds) b n e (suc k) =
       let r = budget m ((effect H G L b P).due ++ ds) (effect H G L b P).best (suc n) e k in
       let r0 = r.0 in

@@ -1,5 +1,5 @@
 -- An answer that is the walk's keeps its promise of whole plans.
-use Rattle.std.proofs.Common.{◌≡◌, ℕ, ◌-◌, ◌<◌, ◌≤◌, Bool, true, ◌⊎◌, List, [], ◌∷◌, Some, None, Option, sym, refl, ap, ◌∙◌, subst, inl, inr, arith}
+use Rattle.std.proofs.Common.{option_map, ◌≡◌, ℕ, ◌-◌, ◌<◌, ◌≤◌, Bool, true, ◌⊎◌, List, [], ◌∷◌, Some, None, Option, sym, refl, ap, ◌∙◌, subst, inl, inr, arith}
 use Rattle.std.proofs.lemmas.Bool.{cases_lt}
 use Rattle.hall.specs.Log.{Log}
 use Rattle.hall.specs.Lasting.{Lasting}
@@ -9,10 +9,10 @@ use Rattle.plans.specs.Outcomes.{number_of, score_in}
 use Rattle.plans.specs.Steps.{fleet, count}
 use Rattle.plans.specs.Meanings.{Hours, hours_of, Limited, Goal, Lawful}
 use Rattle.plans.specs.Plan.{Plan, WholePlan, finish, plan_score}
-use Rattle.plans.specs.Position.{Position, map_option, left, bound_finish, bound}
+use Rattle.plans.specs.Position.{Position, left, bound_finish, bound}
 use Rattle.plans.specs.Walk.{walk, full_visits}
 use Rattle.plans.specs.Promise.{outcome_of, filled, AsWalked, Plans, Unbeaten, Promised}
-use Rattle.plans.proofs.Base.{sum_below_zero, cons_nil}
+use Rattle.plans.proofs.Base.{sum_below_zero}
 use Rattle.plans.proofs.Logs.{LogOk, log_ok}
 use Rattle.plans.proofs.Opening.{HoursOk, hours_ok}
 use Rattle.plans.proofs.Scores.{earlier_score}
@@ -76,7 +76,7 @@ module _ {S : Type 0} (G : Goal S) (L : Log) where
   is_open : (ds : List Position) (b : Option Position) → (number ds b ≡ 3) ⊎ (number ds b ≡ 4) → ds ≡ [] → ⊥
   is_open [] (Some Q) h e = elim h [ inl x ↦ omega arith | inr x ↦ omega arith ]
   is_open [] None h e = elim h [ inl x ↦ omega arith | inr x ↦ omega arith ]
-  is_open (P ∷ ds) b h e = cons_nil P ds e
+  is_open (P ∷ ds) b h e = cc
 
   opened : (ds : List Position) (b : Option Position) → (ds ≡ [] → ⊥) → (number ds b ≡ 3) ⊎ (number ds b ≡ 4)
   opened [] b h = absurd (h refl)
@@ -86,10 +86,9 @@ module _ {S : Type 0} (G : Goal S) (L : Log) where
   ended : (ds : List Position) (b : Option Position) → ds ≡ [] → (number ds b ≡ 1) ⊎ (number ds b ≡ 2)
   ended [] (Some Q) e = inl refl
   ended [] None e = inr refl
-  ended (P ∷ ds) b e = absurd (cons_nil P ds e)
+  ended (P ∷ ds) b e = cc
 
-  score_is : (ds : List Position) (b : Option Position) → score_in (outcome_of G L ds b) ≡ map_option (bound G L) b
-  unfolding map_option
+  score_is : (ds : List Position) (b : Option Position) → score_in (outcome_of G L ds b) ≡ option_map (bound G L) b
   score_is [] (Some Q) = refl
   score_is [] None = refl
   score_is (P ∷ ds) (Some Q) = refl
@@ -118,12 +117,11 @@ module _ {S : Type 0} (H : Hours) (ho : HoursOk H) (G : Goal S) (gk : Lawful G) 
       → (number_of r.outcome ≡ m) ⊎ (number_of r.outcome ≡ n)
   or_of m n h = elim h [ inl e ↦ inl (of_walk m e) | inr e ↦ inr (of_walk n e) ]
 
-  score : score_in r.outcome ≡ map_option (bound G L) held
+  score : score_in r.outcome ≡ option_map (bound G L) held
   score = ap score_in t.outcome ∙ score_is G L due held
 
   -- the plan held
   plans_at : (Q : Position) → held ≡ Some Q → Plans H G L r before after Q.rows
-  unfolding map_option
   plans_at Q q =
       let leaf = best_is_leaf S H G L k Q q in
       let s = sound H ho G L ok Q leaf in
@@ -132,7 +130,7 @@ module _ {S : Type 0} (H : Hours) (ho : HoursOk H) (G : Goal S) (gk : Lawful G) 
         all = leaf_rows H L Q leaf;
         immediate = leaf_immediate H ho L Q leaf;
         whole = s.0;
-        score = score ∙ ap (map_option (bound G L)) q ∙ ap Some s.1;
+        score = score ∙ ap (option_map (bound G L)) q ∙ ap Some s.1;
       }
 
   unbeaten : due ≡ [] → (Q : Position) → held ≡ Some Q → Unbeaten H G L Q.rows
@@ -153,7 +151,6 @@ module _ {S : Type 0} (H : Hours) (ho : HoursOk H) (G : Goal S) (gk : Lawful G) 
   short_of h = elim (cases_lt k (full_visits H G L)) [ inl x ↦ x | inr x ↦ absurd (h ((budgeted H G L k).1.1 x)) ]
 
   promise : Promised H G L k r before after
-  unfolding map_option
   promise = record {
     best = λ e.
         let b = is_best G L due held (to_walk 1 e) in
@@ -163,7 +160,7 @@ module _ {S : Type 0} (H : Hours) (ho : HoursOk H) (G : Goal S) (gk : Lawful G) 
     so_far = λ e. let b = is_held G L due held (to_walk 3 e) in (b.0.rows, plans_at b.0 b.1);
     without = λ h.
         let n = is_without G L due held (either 2 4 h) in
-        (score ∙ ap (map_option (bound G L)) n, t.rows ∙ ap (λ b. filled b before) n);
+        (score ∙ ap (option_map (bound G L)) n, t.rows ∙ ap (λ b. filled b before) n);
     full = full_walk H G L;
     unfinished = (
       λ h. short_of (is_open G L due held (either 3 4 h)),

@@ -1,11 +1,11 @@
 -- What a move and a visit are, taken apart.
-use Rattle.std.proofs.Common.{◌≡◌, ℕ, suc, ◌-◌, ◌<◌, Bool, true, false, cond, eqb, ltb, [], drop, Some, None, Option, refl, ap, ◌∙◌, arith}
+use Rattle.std.proofs.Common.{option_map, ◌≡◌, ℕ, suc, ◌-◌, ◌<◌, Bool, true, false, cond, eqb, ltb, [], drop, Some, None, Option, refl, ap, ◌∙◌, arith}
 use Rattle.std.proofs.lemmas.Bool.{ltb-true, eqb-true, eqb-false, lt-ltb, cond-true, cond_both}
 use Rattle.hall.specs.Log.{Log}
 use Rattle.plans.specs.Steps.{fleet, count, station_of, length_of}
 use Rattle.plans.specs.Meanings.{Hours, Goal}
 use Rattle.plans.specs.Plan.{put}
-use Rattle.plans.specs.Position.{Position, ready, moved, map_option, move, left, is_leaf}
+use Rattle.plans.specs.Position.{Position, ready, moved, move, left, is_leaf}
 use Rattle.plans.specs.Walk.{children, dropped, Effect, effect}
 use Rattle.plans.proofs.Base.{put_same, put_other, sum_below_less}
 
@@ -19,27 +19,21 @@ pub record Moving (H : Hours) (L : Log) (P : Position) (v : ℕ) (Q : Position) 
   pub answer : asked H L P v ≡ Some at
   pub gives : moved L P v at ≡ Q
 
-some_inj : {A : Type 0} (a b : A) → ◌≡◌ {A = Option A} (Some a) (Some b) → a ≡ b
-some_inj a b e = cc
-
-none_some : {A : Type 0} (a : A) → ◌≡◌ {A = Option A} None (Some a) → ⊥
-none_some a e = let z : ◌≡◌ {A = ℕ} 0 1 = cc in omega arith
-
 pub moving : (H : Hours) (L : Log) (P : Position) (v : ℕ) (Q : Position) → move H L P v ≡ Some Q → Moving H L P v Q
-unfolding move map_option
+unfolding move
 moving H L P v Q e = by (ltb (P.begun v) (count L v)) refl (asked H L P v) refl e
   where
     by : (b : Bool) → ltb (P.begun v) (count L v) ≡ b → (o : Option ℕ) → asked H L P v ≡ o
-        → cond b (map_option (moved L P v) o) None ≡ Some Q → Moving H L P v Q
-    by true t (Some a) o x = record { at = a; steps_left_is = ltb-true _ _ t; answer = o; gives = some_inj (moved L P v a) Q x }
-    by true t None o x = absurd (none_some Q x)
-    by false t a o x = absurd (none_some Q x)
+        → cond b (option_map (moved L P v) o) None ≡ Some Q → Moving H L P v Q
+    by true t (Some a) o x = record { at = a; steps_left_is = ltb-true _ _ t; answer = o; gives = cc }
+    by true t None o x = cc
+    by false t a o x = cc
 
 pub can_move : (H : Hours) (L : Log) (P : Position) (v b : ℕ) → P.begun v < count L v → asked H L P v ≡ Some b
     → move H L P v ≡ Some (moved L P v b)
-unfolding move map_option
+unfolding move
 can_move H L P v b l e =
-    cond-true (ltb (P.begun v) (count L v)) _ None (lt-ltb _ _ l) ∙ ap (map_option (moved L P v)) e
+    cond-true (ltb (P.begun v) (count L v)) _ None (lt-ltb _ _ l) ∙ ap (option_map (moved L P v)) e
 
 pub left_less : (L : Log) (P : Position) (v b : ℕ) → v < fleet L → P.begun v < count L v
     → left L P ≡ suc (left L (moved L P v b))

@@ -1,5 +1,5 @@
 -- Whole plans of a hall log, and the plan that rows make.
-use Rattle.std.specs.Prelude.{◌≡◌, ℕ, suc, ◌+◌, ◌-◌, ◌≤◌, max, true, cond, ◌⊎◌, List, fold, ◌==◌}
+use Rattle.std.specs.Prelude.{◌≡◌, ℕ, suc, ◌+◌, ◌-◌, ◌≤◌, max, true, ◌⊎◌, List, fold, if◌then◌else◌, ◌==◌}
 use Rattle.hall.specs.Log.{Log, begin_of, end_of}
 use Rattle.hall.specs.declared.step.Progress.{Progress}
 use Rattle.hall.specs.declared.step.Progress.TheVariants.{Waiting, Running, Done}
@@ -47,7 +47,7 @@ end_by now length (Done b e) = e
 
 -- f with x at i
 unfoldable pub put : {A : Type 0} → (ℕ → A) → ℕ → A → ℕ → A
-put f i x j = cond (i == j) x (f j)
+put f i x j = if i == j then x else f j
 
 -- the begins and ends that the log gives the begun steps
 unfoldable pub logged : Log → Plan

@@ -1,6 +1,6 @@
 -- Positions of the walk: the root of a log, the move of a vehicle, the bound, and runs of moves that begin each step as
 -- soon as the position allows.
-use Rattle.std.specs.Prelude.{◌≡◌, ℕ, zero, suc, ◌+◌, ◌-◌, ◌<◌, max, Bool, cond, List, [], ◌∷◌, ◌++◌, Some, None, Option, ◌==◌, nat_lt}
+use Rattle.std.specs.Prelude.{option_map, ◌≡◌, ℕ, zero, suc, ◌+◌, ◌-◌, ◌<◌, max, Bool, List, [], ◌∷◌, ◌++◌, Some, None, Option, if◌then◌else◌, ◌==◌, nat_lt}
 use Rattle.hall.specs.Log.{Log}
 use Rattle.hall.specs.declared.step.Progress.{Progress}
 use Rattle.hall.specs.declared.step.Progress.TheVariants.{Waiting, Running, Done}
@@ -40,7 +40,7 @@ runs_until now length (Running b) = max now (b + length)
 runs_until now length (Done b e) = 0
 
 unfoldable pub taken_until : Log → ℕ → ℕ → ℕ → ℕ
-taken_until L s v k = cond (station_of L v k == s) (runs_until L.minute (length_of L v k) (progress_of L v k)) 0
+taken_until L s v k = if station_of L v k == s then runs_until L.minute (length_of L v k) (progress_of L v k) else 0
 
 unfoldable pub station_free : Log → ℕ → ℕ
 station_free L s = max_below (fleet L) (λ v. max_below (count L v) (taken_until L s v))
@@ -79,16 +79,12 @@ moved L P v b = record {
   rows = P.rows ++ (row_of L P v b ∷ []);
 }
 
-unfoldable pub map_option : {A B : Type 0} → (A → B) → Option A → Option B
-map_option f None = None
-map_option f (Some a) = Some (f a)
-
 -- the move of vehicle v, if it has a step left and the hours permit a begin
 unfoldable pub move : Hours → Log → Position → ℕ → Option Position
 move H L P v =
-    cond (nat_lt (P.begun v) (count L v))
-    (map_option (moved L P v) (H.earliest (station_of L v (P.begun v)) (ready L P v) (length_of L v (P.begun v))))
-    None
+    if nat_lt (P.begun v) (count L v)
+    then option_map (moved L P v) (H.earliest (station_of L v (P.begun v)) (ready L P v) (length_of L v (P.begun v)))
+    else None
 
 -- how many steps are left to begin, and whether none is
 unfoldable pub left : Log → Position → ℕ
@@ -106,9 +102,9 @@ lengths L v k (suc m) = length_of L v k + lengths L v (suc k) m
 -- finishes at its free minute
 unfoldable pub bound_finish : Log → Position → ℕ → ℕ
 bound_finish L P v =
-    cond (nat_lt (P.begun v) (count L v))
-    (max P.clock (P.free_vehicle v) + lengths L v (P.begun v) (count L v - P.begun v))
-    (P.free_vehicle v)
+    if nat_lt (P.begun v) (count L v)
+    then max P.clock (P.free_vehicle v) + lengths L v (P.begun v) (count L v - P.begun v)
+    else P.free_vehicle v
 
 -- the bound of a position: the goal's score of these finishes. With no step left it is the score of the plan itself
 unfoldable pub bound : {S : Type 0} → Goal S → Log → Position → S

@@ -1,18 +1,14 @@
 -- The walk over positions, as a machine of single visits.
-use Rattle.std.specs.Prelude.{◌≡◌, ℕ, zero, suc, ◌+◌, ◌^◌, ◌<◌, Bool, false, cond, List, [], ◌∷◌, ◌++◌, Some, None, Option, ◌≢◌}
+use Rattle.std.specs.Prelude.{option_to_list, ◌≡◌, ℕ, zero, suc, ◌+◌, ◌^◌, ◌<◌, Bool, false, List, [], ◌∷◌, ◌++◌, Some, None, Option, if◌then◌else◌, ◌≢◌}
 use Rattle.hall.specs.Log.{Log}
 use Rattle.plans.specs.Steps.{fleet}
 use Rattle.plans.specs.Meanings.{Hours, Goal}
 use Rattle.plans.specs.Position.{Position, sum_below, root, move, left, is_leaf, bound}
 
-unfoldable pub list_of : {A : Type 0} → Option A → List A
-list_of None = []
-list_of (Some a) = a ∷ []
-
 -- the children of a position by the vehicles 0 to n - 1, in that order
 unfoldable pub children_below : Hours → Log → Position → ℕ → List Position
 children_below H L P zero = []
-children_below H L P (suc n) = children_below H L P n ++ list_of (move H L P n)
+children_below H L P (suc n) = children_below H L P n ++ option_to_list (move H L P n)
 
 unfoldable pub children : Hours → Log → Position → List Position
 children H L P = children_below H L P (fleet L)
@@ -36,9 +32,8 @@ pub record Effect : Type 0 where
 -- it is dropped; else, with no step left, its rows become the best plan; else its children are due
 unfoldable pub effect : {S : Type 0} → Hours → Goal S → Log → Option Position → Position → Effect
 effect H G L b P =
-    cond (dropped G L b P) (record { due = []; best = b })
-    (cond (is_leaf L P) (record { due = []; best = Some P })
-    (record { due = children H L P; best = b }))
+    if dropped G L b P then record { due = []; best = b }
+    else (if is_leaf L P then record { due = []; best = Some P } else record { due = children H L P; best = b })
 
 -- the first due position is visited, and what becomes due goes in front
 unfoldable pub visit_first : {S : Type 0} → Hours → Goal S → Log → List Position → Option Position → ℕ → State

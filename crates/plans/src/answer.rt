@@ -3,7 +3,7 @@ ghost use Rattle.std.specs.Prelude.{◌≡◌};
 ghost use Rattle.plans.specs.Outcomes.{number_of, score_in, refusal_of};
 
 // How the search stands: ended with a best plan or without any plan, or not ended, with a plan so far or without one.
-#[derive(Clone, Copy, Debug, PartialEq)]
+#[derive(Clone, Copy, Debug, PartialEq, Eq)]
 pub enum Outcome<S> {
     Best(S),
     NoPlan,
@@ -12,7 +12,8 @@ pub enum Outcome<S> {
 }
 
 impl<S: Copy> Outcome<S> {
-    // The outcome's number, 1 to 4.
+    // The outcome's number, 1 to 4. The rules number the outcomes, and beside a case that holds a score no case can have a
+    // discriminant.
     pub fn number(&self) -> u32
         ensures number { result ≡ number_of self.now }
     {
@@ -29,25 +30,23 @@ impl<S: Copy> Outcome<S> {
         ensures held { result ≡ score_in self.now }
     {
         match self {
-            Outcome::Best(score) => Some(*score),
-            Outcome::NoPlan => None,
-            Outcome::UnfinishedWith(score) => Some(*score),
-            Outcome::UnfinishedWithout => None,
+            Outcome::Best(score) | Outcome::UnfinishedWith(score) => Some(*score),
+            Outcome::NoPlan | Outcome::UnfinishedWithout => None,
         }
     }
 }
 
-#[derive(Clone, Copy, Debug, PartialEq)]
+#[derive(Clone, Copy, Debug, PartialEq, Eq)]
 pub struct Answer<S> {
     pub outcome: Outcome<S>,
     pub visits: u64,
 }
 
-// Why a search is not gone on with, or its plan not written.
-#[derive(Clone, Copy, Debug, PartialEq)]
+// Why a search is not gone on with, or its plan not written: each case has the refusal's number.
+#[derive(Clone, Copy, Debug, PartialEq, Eq)]
 pub enum PlanFault {
-    BudgetTooLarge,
-    RowsTooShort,
+    BudgetTooLarge = 30,
+    RowsTooShort = 31,
 }
 
 impl PlanFault {
@@ -55,9 +54,6 @@ impl PlanFault {
     pub fn refusal(&self) -> u32
         ensures number { result ≡ refusal_of self.now }
     {
-        match self {
-            PlanFault::BudgetTooLarge => 30,
-            PlanFault::RowsTooShort => 31,
-        }
+        *self as u32
     }
 }

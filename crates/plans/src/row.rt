@@ -1,7 +1,7 @@
 // Rows of a plan.
 
 // A step that is still to begin, with the minutes that the plan gives it.
-#[derive(Clone, Copy, Debug, PartialEq)]
+#[derive(Clone, Copy, Debug, PartialEq, Eq)]
 pub struct Row {
     pub vehicle: u32,
     pub step: u32,

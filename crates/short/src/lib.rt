@@ -1,7 +1,7 @@
 // Short lists, which lie in the value that holds them.
 #![tactic(auto)]
 
-ghost use Rattle.std.specs.Prelude.{◌≡◌, ◌<◌, ◌≤◌, [], ◌∷◌, ◌++◌, length, slice_set};
+ghost use Rattle.std.specs.Prelude.{◌≡◌, ◌-◌, ◌<◌, ◌≤◌, [], ◌∷◌, ◌++◌, length, take, slice_get, slice_set};
 
 use std::marker::Model;
 
@@ -67,5 +67,15 @@ impl<T: Copy, const N: usize> Short<T, N> {
     {
         prove!(at < self.len);
         self.places[at] = item;
+    }
+
+    // Takes the last item off, where there is one.
+    pub fn pop(&mut self) -> Option<T>
+        ensures item { result ≡ slice_get self.old.items (length self.old.items - 1) }
+        ensures items { self.new.items ≡ take (length self.old.items - 1) self.old.items }
+    {
+        let len = self.len.checked_sub(1)?;
+        self.len = len;
+        Some(self.places[len])
     }
 }

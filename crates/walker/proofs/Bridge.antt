@@ -1,5 +1,5 @@
 -- The code visits as the walk over the hall log does.
-use Rattle.std.proofs.Common.{◌≡◌, ℕ, zero, suc, ◌+◌, Bool, true, false, cond, List, [], ◌∷◌, ◌++◌, map, Some, None, Option, sym, refl, ap, ◌∙◌, subst, add-one, arith, length-set}
+use Rattle.std.proofs.Common.{option_map, ◌≡◌, ℕ, zero, suc, ◌+◌, Bool, true, false, cond, List, [], ◌∷◌, ◌++◌, map, Some, None, Option, sym, refl, ap, ◌∙◌, subst, add-one, arith, length-set}
 use Rattle.std.proofs.lemmas.List.{map-append}
 use Rattle.std.proofs.ByRecursion.{All-append}
 use Rattle.std.specs.List.{AllByRecursion}
@@ -7,14 +7,15 @@ use Rattle.hall.specs.Log.{Log}
 use Rattle.hall.specs.declared.vehicle.Vehicle.{Vehicle}
 use Rattle.plans.specs.declared.row.Row.{Row}
 use Rattle.plans.specs.Meanings.{Hours, Goal}
-use Rattle.plans.specs.Position.{Position as Place, map_option, is_leaf, bound}
+use Rattle.plans.specs.Position.{Position as Place, is_leaf, bound}
 use Rattle.plans.specs.Walk.{State, Effect, dropped, effect, visit_first, visit, after}
 use Rattle.plans.specs.Walk.{children as all-children}
 use Rattle.walker.specs.declared.position.Position.{Position}
 use Rattle.walker.specs.Moves.{Query, next_in, begin_in, advanced, FleetOk}
 use Rattle.walker.specs.Bounds.{bound_in}
 use Rattle.walker.specs.Trail.{Due, child_by, children, children_from}
-use Rattle.walker.specs.Visits.{Held, Stage, stage, beats, score_held, visit_top, visit_due, visit_once, visits_of}
+use Rattle.walk.specs.Held.{beats}
+use Rattle.walker.specs.Visits.{Held, Stage, stage, score_held, visit_top, visit_due, visit_once, visits_of}
 use Rattle.walker.specs.View.{view_due, Fits, Tells}
 use Rattle.walker.specs.Standing.{held_at, Sees}
 use Rattle.walker.proofs.Views.{all_is, bound_is, leaf_is}
@@ -22,7 +23,6 @@ use Rattle.walker.proofs.Views.{all_is, bound_is, leaf_is}
 -- children keep the arrays' sizes
 advanced_fits : (J : List Vehicle) (p : Position) (v b : ℕ) → Fits p → Fits (advanced J p v b)
 advanced_fits J p v b f = record {
-  begun = length-set p.begun v _ ∙ f.begun;
   vehicles = length-set p.vehicles v _ ∙ f.vehicles;
   stations = length-set p.stations (next_in J p v).station _ ∙ f.stations;
 }
@@ -39,9 +39,9 @@ children_fit E J p rs f (suc m) v = All-append Fit (child_by J p rs v (begin_in 
     by (Some b) = (advanced_fits J p v b f, tt)
 
 module _ {S : Type 0} (H : Hours) (G : Goal S) (L : Log) (J : List Vehicle) (t : Tells L J) (ok : FleetOk J) where
-  beaten_is : (h : Option (Held S)) (b : Option Place) → h ≡ map_option (held_at G L) b → (d : Due)
+  beaten_is : (h : Option (Held S)) (b : Option Place) → h ≡ option_map (held_at G L) b → (d : Due)
       → beats G.no_worse (score_held h) (bound_in G J d.at) ≡ dropped G L b (view_due d)
-  unfolding dropped map_option
+  unfolding dropped
   beaten_is h None e d = ap (λ x. beats G.no_worse (score_held x) (bound_in G J d.at)) e
   beaten_is h (Some Q) e d =
       ap (λ x. beats G.no_worse (score_held x) (bound_in G J d.at)) e
@@ -51,14 +51,11 @@ module _ {S : Type 0} (H : Hours) (G : Goal S) (L : Log) (J : List Vehicle) (t :
   recorded d = ap (λ (x : S). Some (record { score = x; rows = d.rows })) (bound_is L J t d.at d.rows G)
 
   -- one visit of the first due position
-  visit_top_sees : (d : Due) (ds : List Due) (h : Option (Held S)) (b : Option Place) (n : ℕ) → h ≡ map_option (held_at G L) b → AllByRecursion Fit (d ∷ ds)
+  visit_top_sees : (d : Due) (ds : List Due) (h : Option (Held S)) (b : Option Place) (n : ℕ) → h ≡ option_map (held_at G L) b → AllByRecursion Fit (d ∷ ds)
       → Sees G L (visit_top H G J d ds h n) (visit_first H G L (view_due d ∷ map view_due ds) b n)
-  unfolding visit_first effect map_option
+  unfolding visit_first effect
   visit_top_sees d ds h b n e (f, fs) = at (dropped G L b (view_due d)) (is_leaf L (view_due d)) _ _ (beaten_is h b e d) (sym (leaf_is L J t d.at d.rows))
     where
-      opens : Effect
-      opens = record { due = all-children H L (view_due d); best = b }
-
       at : (x y x' y' : Bool) → x' ≡ x → y' ≡ y →
           Sees G L
           (cond x' (stage ds h (n + 1))

@@ -4,7 +4,6 @@ pub mod Children
 pub mod Steps
 pub mod Trails
 pub mod Visited
-pub mod Rows
 pub mod Views
 pub mod Ready
 pub mod Rooted

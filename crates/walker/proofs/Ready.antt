@@ -1,10 +1,11 @@
 -- What every board keeps, for the code of the walk.
-use Rattle.std.proofs.Common.{◌≡◌, ℕ, ◌+◌, ◌<◌, ◌≤◌, List, [], length, sym, refl, ap, ◌∙◌, subst, inl, inr, add-one, arith}
+use Rattle.std.proofs.Common.{◌≡◌, ℕ, ◌+◌, ◌<◌, ◌≤◌, List, [], length, sym, refl, ap, ◌∙◌, inl, inr, add-one, arith}
 use Rattle.std.proofs.lemmas.Bool.{cases_lt}
 use Rattle.std.proofs.lemmas.List.{get_or_past}
-use Rattle.hall.specs.Log.{Log, next_step, vehicle_at, begin_of}
+use Rattle.hall.specs.Log.{Log, next_step, vehicle_at}
 use Rattle.hall.specs.Hall.{hall_log, fleet_of}
 use Rattle.hall.specs.declared.board.Board.{Board}
+use Rattle.hall.specs.View.{steps_of}
 use Rattle.hall.specs.declared.vehicle.Vehicle.{Vehicle}
 use Rattle.hall.proofs.Kept.{kept}
 use Rattle.plans.specs.Steps.{fleet, IsStep, begun_of}
@@ -14,7 +15,7 @@ use Rattle.plans.proofs.Limits.{root_small}
 use Rattle.plans.proofs.Root.{root_within}
 use Rattle.walker.specs.declared.position.Position.{Position}
 use Rattle.walker.specs.Moves.{vehicle_in, RecordOk, FleetOk, Sane, BegunWithin}
-use Rattle.walker.specs.Roots.{Past, stood, stood_upto}
+use Rattle.walker.specs.Roots.{stood, stood_upto}
 use Rattle.walker.specs.View.{Tells, RootOf}
 use Rattle.walker.proofs.Views.{tells}
 
@@ -25,7 +26,7 @@ laws b = log_ok (hall_log b) (kept b)
 fleet_within : (L : Log) (J : List Vehicle) → LogOk L → Tells L J → FleetOk J
 fleet_within L J ok t = record { few = let a = t.all in let b = ok.few in omega arith; each = each }
   where
-    step : (v k : ℕ) → v < length J → k < (vehicle_in J v).len → IsStep L v k
+    step : (v k : ℕ) → v < length J → k < length (steps_of (vehicle_in J v)) → IsStep L v k
     step v k h l = record { known = let a = t.all in omega arith; within = let c = t.counts v h in omega arith }
 
     each : (v : ℕ) → v < length J → RecordOk (vehicle_in J v)
@@ -59,7 +60,7 @@ root_sane b p ro =
       free = λ v.
           let e = ap (λ (P : Place). P.free_vehicle v) ro.is in
           elim (cases_lt v (fleet L)) [ inl l ↦ (let c = small.free v l in omega arith) | inr l ↦ (let c = root_free L v l in omega arith) ];
-      sized = ro.fits.begun;
+      sized = ro.fits.vehicles;
     }
 
 begun_root : (L : Log) (v : ℕ) → (root L).begun v ≡ begun_of L v
@@ -75,50 +76,25 @@ root_begun_within b p ro = record {
       let w = root_within L v in
       let c = (tells b).counts v h in
       omega arith;
-  sized = ro.fits.begun;
+  sized = ro.fits.vehicles;
 }
 
--- what is recorded of a vehicle is past
-pub all_past : (b : Board) (v : ℕ) → v < length (fleet_of b) → Past (hall_log b).minute (vehicle_in (fleet_of b) v)
-all_past b v h =
-    let t = tells b in
-    let ok = laws b in
-    record {
-      low = ok.now_small;
-      ok = (fleet_ok b).each v h;
-      sized = t.sized v h;
-      begins = λ k l.
-          let e = ap begin_of (t.progress v k h l) in
-          let c = t.counts v h in
-          let a = t.all in
-          let p = ok.past v k (record { known = omega arith; within = omega arith }) in
-          let n = ok.now_small in
-          omega arith;
-    }
-
--- one vehicle more, as the code has the board's records, minute and begun steps
-module _ (b : Board) (fleet_read : List Vehicle) (is : fleet_read ≡ fleet_of b) (minute begun v : ℕ) (now : minute ≡ (hall_log b).minute)
-    (front : begun ≡ next_step (vehicle_at (hall_log b) v)) where
-  pub can_stand : v < length fleet_read → Past minute (vehicle_in fleet_read v) × ((v < 24) × (begun ≤ (vehicle_in fleet_read v).len))
+-- one vehicle more, as the code has its record, its begun steps and the minute
+module _ (b : Board) (w : Vehicle) (minute begun v : ℕ) (known : v < length (fleet_of b)) (is : w ≡ vehicle_in (fleet_of b) v)
+    (now : minute ≡ (hall_log b).minute) (front : begun ≡ next_step (vehicle_at (hall_log b) v)) where
+  pub begun_fits : begun ≤ length (steps_of w)
   unfolding begun_of
-  can_stand h =
-      let size = ap length is in
-      let l : v < length (fleet_of b) = omega arith in
-      let row : vehicle_in fleet_read v ≡ vehicle_in (fleet_of b) v = ap (λ J. vehicle_in J v) is in
-      let few = (fleet_ok b).few in
-      let c = (tells b).counts v l in
-      let w = root_within (hall_log b) v in
-      let len = ap (λ (x : Vehicle). x.len) row in (
-        subst (λ m. Past m (vehicle_in fleet_read v)) (sym now) (subst (Past (hall_log b).minute) (sym row) (all_past b v l)),
-        (omega arith, omega arith),
-      )
+  begun_fits =
+      let c = (tells b).counts v known in
+      let n = root_within (hall_log b) v in
+      let len = ap (λ (x : Vehicle). length (steps_of x)) is in
+      omega arith
 
-  pub stands_more : (p q : Position) → p ≡ stood_upto (hall_log b) (fleet_of b) v → q ≡ stood minute (vehicle_in fleet_read v) v begun p
-      → q ≡ stood_upto (hall_log b) (fleet_of b) (v + 1)
+  pub stands_more : (p q : Position) → p ≡ stood_upto (hall_log b) (fleet_of b) v → q ≡ stood minute w v begun p → q ≡ stood_upto (hall_log b) (fleet_of b) (v + 1)
   unfolding begun_of
   stands_more p q e f =
-      f ∙ ap (λ m. stood m (vehicle_in fleet_read v) v begun p) now
-      ∙ ap (λ J. stood (hall_log b).minute (vehicle_in J v) v begun p) is
+      f ∙ ap (λ m. stood m w v begun p) now
+      ∙ ap (λ x. stood (hall_log b).minute x v begun p) is
       ∙ ap (λ k. stood (hall_log b).minute (vehicle_in (fleet_of b) v) v k p) front
       ∙ ap (stood (hall_log b).minute (vehicle_in (fleet_of b) v) v (next_step (vehicle_at (hall_log b) v))) e
       ∙ ap (stood_upto (hall_log b) (fleet_of b)) (sym (add-one v))

@@ -14,16 +14,17 @@ use Rattle.plans.proofs.Logs.{LogOk}
 use Rattle.plans.proofs.Root.{root_within}
 use Rattle.plans.proofs.Stations.{none_taken, last_taken, far_free}
 use Rattle.walker.specs.declared.position.Position.{Position}
-use Rattle.walker.specs.Moves.{vehicle_in, step_in}
+use Rattle.walker.specs.declared.position.Standing.{Standing}
+use Rattle.walker.specs.Moves.{no_standing, standing_in, begun_in, free_in, vehicle_in, step_in}
 use Rattle.walker.specs.View.{table, Fits, Tells, RootOf}
 use Rattle.walker.specs.Roots.{stood, stood_upto}
 use Rattle.walker.proofs.Views.{same_place, tells}
 use Rattle.walker.proofs.Ready.{laws, begun_past, free_past}
 
-zeros : (n i : ℕ) → ◌≡◌ {A = ℕ} (get_or (replicate n 0) i 0) 0
-zeros zero i = refl
-zeros (suc n) zero = refl
-zeros (suc n) (suc i) = zeros n i
+same_throughout : {X : Type 0} (x : X) (n i : ℕ) → get_or (replicate n x) i x ≡ x
+same_throughout x zero i = refl
+same_throughout x (suc n) zero = refl
+same_throughout x (suc n) (suc i) = same_throughout x n i
 
 module _ (b : Board) where
   abbrev L : Log
@@ -44,50 +45,54 @@ module _ (b : Board) where
   taken : ℕ → ℕ → ℕ
   taken s v = max_below (count L v) (taken_until L s v)
 
+  -- where vehicle u stands at the root
+  abbrev place_of : ℕ → Standing
+  place_of u = record { begun = begun_of L u; free = free_after L u (begun_of L u) }
+
   -- the first n vehicles stand at their places
   record Stands (n : ℕ) (p : Position) : Type 0 where
     pub fits : Fits p
     pub clock : p.clock ≡ now
-    pub begun : (u : ℕ) → u < n → table p.begun u ≡ begun_of L u
-    pub begun_rest : (u : ℕ) → n ≤ u → table p.begun u ≡ 0
-    pub free : (u : ℕ) → u < n → table p.vehicles u ≡ free_after L u (begun_of L u)
-    pub free_rest : (u : ℕ) → n ≤ u → table p.vehicles u ≡ 0
+    pub stands : (u : ℕ) → u < n → standing_in p u ≡ place_of u
+    pub rest : (u : ℕ) → n ≤ u → standing_in p u ≡ no_standing
     pub stations : (s : ℕ) → s < 16 → table p.stations s ≡ max_below n (taken s)
 
   -- one write, read back below and past the vehicle
-  below : (xs : List ℕ) (n x : ℕ) (f : ℕ → ℕ) → n < length xs → ((u : ℕ) → u < n → table xs u ≡ f u) → x ≡ f n → (u : ℕ) → u < suc n → table (set xs n x) u ≡ f u
+  below : (xs : List Standing) (n : ℕ) (x : Standing) (f : ℕ → Standing) → n < length xs → ((u : ℕ) → u < n → get_or xs u no_standing ≡ f u) → x ≡ f n
+      → (u : ℕ) → u < suc n → get_or (set xs n x) u no_standing ≡ f u
   below xs n x f h all e u l = by (cases_eq u n)
     where
       lt_of : (u n : ℕ) → u < suc n → (u ≡ n → ⊥) → u < n
       lt_of u n l d = elim (cases_lt u n) [ inl a ↦ a | inr a ↦ absurd (d (omega arith)) ]
 
-      by : (u ≡ n) ⊎ (u ≡ n → ⊥) → table (set xs n x) u ≡ f u
-      by (inl q) = subst (λ i. table (set xs n x) i ≡ f i) (sym q) (get_or-set_same xs n x 0 h ∙ e)
-      by (inr d) = get_or-set_other xs n u x 0 d ∙ all u (let a = lt_of u n l d in a)
+      by : (u ≡ n) ⊎ (u ≡ n → ⊥) → get_or (set xs n x) u no_standing ≡ f u
+      by (inl q) = subst (λ i. get_or (set xs n x) i no_standing ≡ f i) (sym q) (get_or-set_same xs n x no_standing h ∙ e)
+      by (inr d) = get_or-set_other xs n u x no_standing d ∙ all u (let a = lt_of u n l d in a)
 
-  past : (xs : List ℕ) (n x : ℕ) → ((u : ℕ) → n ≤ u → table xs u ≡ 0) → (u : ℕ) → suc n ≤ u → table (set xs n x) u ≡ 0
-  past xs n x all u l = let ne : u ≢ n = omega arith in get_or-set_other xs n u x 0 ne ∙ all u (omega arith)
+  past : (xs : List Standing) (n : ℕ) (x : Standing) → ((u : ℕ) → n ≤ u → get_or xs u no_standing ≡ no_standing) → (u : ℕ) → suc n ≤ u → get_or (set xs n x) u no_standing ≡ no_standing
+  past xs n x all u l = let ne : u ≢ n = omega arith in get_or-set_other xs n u x no_standing ne ∙ all u (omega arith)
 
   stands_none : (n : ℕ) (p : Position) → n < length J → begun_of L n ≡ 0 → Stands n p → Stands (suc n) (stood now (vehicle_in J n) n 0 p)
   unfolding max_below free_after taken
   stands_none n p h e s =
       let few = ok.few in
       let all = t.all in
-      let fb = s.fits.begun in
+      let ff = s.fits.vehicles in
+      let x : Standing = record { begun = 0; free = free_in p n } in
+      let here : x ≡ place_of n =
+      ap (λ (y : Standing). record { begun = 0; free = y.free }) (s.rest n (omega arith))
+      ∙ ap (λ k. record { begun = k; free = free_after L n k }) (sym e) in
       record {
-        fits = record { begun = length-set p.begun n 0 ∙ s.fits.begun; vehicles = s.fits.vehicles; stations = s.fits.stations };
+        fits = record { vehicles = length-set p.vehicles n x ∙ s.fits.vehicles; stations = s.fits.stations };
         clock = s.clock;
-        begun = below p.begun n 0 (begun_of L) (omega arith) s.begun (sym e);
-        begun_rest = past p.begun n 0 s.begun_rest;
-        free = λ u l. elim (cases_lt u n) [ inl a ↦ s.free u a | inr a ↦ (let q : u ≡ n = omega arith in s.free_rest u a ∙ sym (ap (free_after L u) (ap (begun_of L) q ∙ e))) ];
-        free_rest = λ u l. s.free_rest u (omega arith);
+        stands = below p.vehicles n x place_of (omega arith) s.stands here;
+        rest = past p.vehicles n x s.rest;
         stations = λ i l. let o = s.stations i l in let z = none_taken L ok i n (omega arith) e in omega arith;
       }
 
   abbrev on : ℕ → Vehicle → ℕ → ℕ → ℕ → Position → Position
   on m w v k i p = record {
-    begun = set p.begun v k;
-    vehicles = set p.vehicles v (end_by m (step_in w i).length (step_in w i).progress);
+    vehicles = set p.vehicles v (record { begun = k; free = end_by m (step_in w i).length (step_in w i).progress });
     stations = set p.stations (step_in w i).station (max (get_or p.stations (step_in w i).station 0) (runs_until m (step_in w i).length (step_in w i).progress));
     clock = p.clock;
   }
@@ -99,7 +104,6 @@ module _ (b : Board) where
       let all = t.all in
       let within = root_within L n in
       let c = t.counts n h in
-      let fb = s.fits.begun in
       let ff = s.fits.vehicles in
       let fs = s.fits.stations in
       let es = t.stations n j h (omega arith) in
@@ -107,14 +111,15 @@ module _ (b : Board) where
       let ep = t.progress n j h (omega arith) in
       let low = ok.placed n j (record { known = omega arith; within = omega arith }) in
       let w = vehicle_in J n in
+      let x : Standing = record { begun = suc j; free = end_by now (step_in w j).length (step_in w j).progress } in
+      let here : x ≡ place_of n =
+      ap (λ m. record { begun = suc j; free = m }) (ap (λ m. end_by now m (step_in w j).progress) (sym el) ∙ ap (end_by now (length_of L n j)) (sym ep))
+      ∙ ap (λ k. record { begun = k; free = free_after L n k }) (sym e) in
       record {
-        fits = record { begun = length-set p.begun n (suc j) ∙ s.fits.begun; vehicles = length-set p.vehicles n _ ∙ s.fits.vehicles; stations = length-set p.stations (step_in w j).station _ ∙ s.fits.stations };
+        fits = record { vehicles = length-set p.vehicles n _ ∙ s.fits.vehicles; stations = length-set p.stations (step_in w j).station _ ∙ s.fits.stations };
         clock = s.clock;
-        begun = below p.begun n (suc j) (begun_of L) (omega arith) s.begun (sym e);
-        begun_rest = past p.begun n (suc j) s.begun_rest;
-        free = below p.vehicles n (end_by now (step_in w j).length (step_in w j).progress) (λ u. free_after L u (begun_of L u)) (omega arith) s.free
-            (ap (λ x. end_by now x (step_in w j).progress) (sym el) ∙ ap (end_by now (length_of L n j)) (sym ep) ∙ sym (ap (free_after L n) e));
-        free_rest = past p.vehicles n (end_by now (step_in w j).length (step_in w j).progress) s.free_rest;
+        stands = below p.vehicles n x place_of (omega arith) s.stands here;
+        rest = past p.vehicles n x s.rest;
         stations = λ i l. station i l (cases_eq i (step_in w j).station);
       }
     where
@@ -158,13 +163,11 @@ module _ (b : Board) where
   stands : (n : ℕ) → n ≤ length J → Stands n (stood_upto L J n)
   unfolding max_below
   stands zero h = record {
-    fits = record { begun = refl; vehicles = refl; stations = refl };
+    fits = record { vehicles = refl; stations = refl };
     clock = refl;
-    begun = λ u l. absurd (omega arith);
-    begun_rest = λ u l. zeros 24 u;
-    free = λ u l. absurd (omega arith);
-    free_rest = λ u l. zeros 24 u;
-    stations = λ s l. zeros 16 s;
+    stands = λ u l. absurd (omega arith);
+    rest = λ u l. same_throughout no_standing 24 u;
+    stations = λ s l. same_throughout 0 16 s;
   }
   stands (suc n) h = by (begun_of L n) refl (stands n (omega arith))
     where
@@ -179,11 +182,17 @@ module _ (b : Board) where
       s : Stands (length J) (stood_upto L J (length J))
       s = stands (length J) (omega arith)
 
-      begun : (u : ℕ) → table (stood_upto L J (length J)).begun u ≡ begun_of L u
-      begun u = elim (cases_lt u (length J)) [ inl a ↦ s.begun u a | inr a ↦ s.begun_rest u a ∙ sym (begun_past L u (let q = t.all in omega arith)) ]
+      begun : (u : ℕ) → begun_in (stood_upto L J (length J)) u ≡ begun_of L u
+      begun u = elim (cases_lt u (length J)) [
+        | inl a ↦ ap (λ (x : Standing). x.begun) (s.stands u a)
+        | inr a ↦ ap (λ (x : Standing). x.begun) (s.rest u a) ∙ sym (begun_past L u (let q = t.all in omega arith))
+      ]
 
-      free : (u : ℕ) → table (stood_upto L J (length J)).vehicles u ≡ free_after L u (begun_of L u)
-      free u = elim (cases_lt u (length J)) [ inl a ↦ s.free u a | inr a ↦ s.free_rest u a ∙ sym (free_past L u (let q = t.all in omega arith)) ]
+      free : (u : ℕ) → free_in (stood_upto L J (length J)) u ≡ free_after L u (begun_of L u)
+      free u = elim (cases_lt u (length J)) [
+        | inl a ↦ ap (λ (x : Standing). x.free) (s.stands u a)
+        | inr a ↦ ap (λ (x : Standing). x.free) (s.rest u a) ∙ sym (free_past L u (let q = t.all in omega arith))
+      ]
 
       station : (i : ℕ) → table (stood_upto L J (length J)).stations i ≡ max_below (fleet L) (λ v. max_below (count L v) (taken_until L i v))
       station i = elim (cases_lt i 16) [ inl a ↦ s.stations i a ∙ ap (λ n. max_below n (taken i)) (sym t.all) | inr a ↦ get_or_past _ i 0 (let q = s.fits.stations in omega arith) ∙ sym (far_free L ok i a) ]

@@ -1,40 +1,44 @@
 -- Moves, children and bounds of the code are those of the walk.
-use Rattle.std.proofs.Common.{◌≡◌, ℕ, zero, suc, ◌+◌, ◌-◌, ◌<◌, ◌≤◌, max, cond, eqb, ltb, ◌⊎◌, List, [], ◌∷◌, ◌++◌, map, length, get_or, set, Some, None, Option, sym, refl, ap, ◌∙◌, subst, inl, inr, arith}
+use Rattle.std.proofs.Common.{option_map, option_to_list, ◌≡◌, ℕ, zero, suc, ◌+◌, ◌-◌, ◌<◌, ◌≤◌, max, cond, eqb, ltb, ◌⊎◌, List, [], ◌∷◌, ◌++◌, map, length, get_or, set, Some, None, Option, sym, refl, ap, ◌∙◌, subst, inl, inr, arith}
 use mathlib.Core.Path.{fun_ext}
 use Rattle.std.proofs.lemmas.Bool.{cases_eq, cases_lt, cond-true, cond-false, lt-ltb, le-ltb}
-use Rattle.std.proofs.lemmas.List.{get_or-set_same, get_or-set_other, append-nil, append_assoc, map-append, get_or-map, length-map, length-take-le, get_or-take}
+use Rattle.std.proofs.lemmas.List.{get_or-set_same, get_or-set_other, append-nil, append_assoc, map-append, get_or-map, length-map}
 use Rattle.hall.specs.Log.{Log, blank}
 use Rattle.hall.specs.View.{steps_of}
 use Rattle.hall.specs.Hall.{hall_log, fleet_of}
 use Rattle.hall.specs.declared.board.Board.{Board}
-use Rattle.hall.specs.declared.step.StepRecord.{StepRecord}
 use Rattle.hall.specs.declared.vehicle.Vehicle.{Vehicle}
 use Rattle.plans.specs.declared.row.Row.{Row}
 use Rattle.plans.specs.Steps.{fleet, count, station_of, length_of, progress_of}
 use Rattle.plans.specs.Meanings.{Hours, Goal, score_of}
 use Rattle.plans.specs.Plan.{put}
-use Rattle.plans.specs.Position.{Position as Place, sum_below, ready, row_of, moved, map_option, move, left, is_leaf, lengths, bound_finish, bound}
-use Rattle.plans.specs.Walk.{list_of, children_below}
+use Rattle.plans.specs.Position.{Position as Place, sum_below, ready, row_of, moved, move, left, is_leaf, lengths, bound_finish, bound}
+use Rattle.plans.specs.Walk.{children_below}
 use Rattle.plans.specs.Walk.{children as all-children}
 use Rattle.plans.proofs.Base.{put_at, put_other}
 use Rattle.plans.proofs.Scores.{same_score}
 use Rattle.walker.specs.declared.position.Position.{Position}
-use Rattle.walker.specs.Moves.{steps_left, no_vehicle, vehicle_in, begun_in, next_in, has_step, from_minute, begin_in, row_in, FleetOk}
+use Rattle.walker.specs.declared.position.Standing.{Standing}
+use Rattle.walker.specs.Moves.{no_standing, free_in, steps_left, no_vehicle, vehicle_in, begun_in, next_in, has_step, from_minute, begin_in, row_in, FleetOk}
 use Rattle.walker.specs.Bounds.{lengths_left, finish_in, bound_in}
 use Rattle.walker.specs.Trail.{child, child_by, children, children_from}
 use Rattle.walker.specs.View.{table, place, view, view_due, Fits, Tells}
 use Rattle.walker.proofs.Sums.{left_more, left_none}
 
--- a write to the array is a write to the function
-pub write_is_put : (xs : List ℕ) (i x : ℕ) → i < length xs → table (set xs i x) ≡ put (table xs) i x
-write_is_put xs i x h = fun_ext each
+-- a write to the array is a write to the function that reads a part of its elements
+pub write_is_put : {X : Type 0} (part : X → ℕ) (xs : List X) (i : ℕ) (x d : X) → i < length xs
+    → (λ j. part (get_or (set xs i x) j d)) ≡ put (λ j. part (get_or xs j d)) i (part x)
+write_is_put {X} part xs i x d h = fun_ext each
   where
-    each : (j : ℕ) → table (set xs i x) j ≡ put (table xs) i x j
+    read : List X → ℕ → ℕ
+    read ys j = part (get_or ys j d)
+
+    each : (j : ℕ) → read (set xs i x) j ≡ put (read xs) i (part x) j
     each j = by (cases_eq i j)
       where
-        by : (i ≡ j) ⊎ (i ≡ j → ⊥) → table (set xs i x) j ≡ put (table xs) i x j
-        by (inl e) = subst (λ u. table (set xs i x) u ≡ x) e (get_or-set_same xs i x 0 h) ∙ sym (put_at (table xs) i j x e)
-        by (inr d) = get_or-set_other xs i j x 0 (λ y. d (sym y)) ∙ sym (put_other (table xs) i j x d)
+        by : (i ≡ j) ⊎ (i ≡ j → ⊥) → read (set xs i x) j ≡ put (read xs) i (part x) j
+        by (inl e) = subst (λ u. read (set xs i x) u ≡ part x) e (ap part (get_or-set_same xs i x d h)) ∙ sym (put_at (read xs) i j (part x) e)
+        by (inr n) = ap part (get_or-set_other xs i j x d (λ y. n (sym y))) ∙ sym (put_other (read xs) i j (part x) n)
 
 pub same_place : (a a' b b' s s' : ℕ → ℕ) (c c' : ℕ) (rs rs' : List Row) → a ≡ a' → b ≡ b' → s ≡ s' → c ≡ c' → rs ≡ rs' → place a b s c rs ≡ place a' b' s' c' rs'
 same_place a a' b b' s s' c c' rs rs' e f g h i =
@@ -45,27 +49,14 @@ pub tells : (b : Board) → Tells (hall_log b) (fleet_of b)
 unfolding fleet count station_of length_of progress_of
 tells b = record {
   all = length-map (fleet_of b) steps_of;
-  counts = λ v h. ap length (row v h) ∙ length-take-le _ _ (sized v h);
-  stations = λ v k h l. ap (λ ss. (get_or ss k blank).station) (row v h) ∙ ap (λ (s : StepRecord). s.station) (get_or-take _ _ k blank l);
-  lengths = λ v k h l. ap (λ ss. (get_or ss k blank).length) (row v h) ∙ ap (λ (s : StepRecord). s.length) (get_or-take _ _ k blank l);
-  progress = λ v k h l. ap (λ ss. (get_or ss k blank).progress) (row v h) ∙ ap (λ (s : StepRecord). s.progress) (get_or-take _ _ k blank l);
-  sized = sized;
+  counts = λ v h. ap length (row v h);
+  stations = λ v k h l. ap (λ ss. (get_or ss k blank).station) (row v h);
+  lengths = λ v k h l. ap (λ ss. (get_or ss k blank).length) (row v h);
+  progress = λ v k h l. ap (λ ss. (get_or ss k blank).progress) (row v h);
 }
   where
     row : (v : ℕ) → v < length (fleet_of b) → get_or (map steps_of (fleet_of b)) v [] ≡ steps_of (vehicle_in (fleet_of b) v)
     row v h = get_or-map steps_of (fleet_of b) v no_vehicle [] h
-
-    sized : (v : ℕ) → v < length (fleet_of b) → (vehicle_in (fleet_of b) v).len ≤ length (vehicle_in (fleet_of b) v).steps
-    sized v h =
-        let few = b.few in
-        let size = b.table in
-        let n = length-take-le b.count b.vehicles (omega arith) in
-        let at = get_or-take b.count b.vehicles v no_vehicle (omega arith) in
-        let a = ap (λ (w : Vehicle). w.len) at in
-        let c = ap (λ (w : Vehicle). length w.steps) at in
-        let e = b.counted v no_vehicle (omega arith) in
-        let f = b.filled v no_vehicle (omega arith) in
-        omega arith
 
 module _ (L : Log) (J : List Vehicle) (t : Tells L J) (p : Position) (rs : List Row) where
   abbrev P : Place
@@ -107,15 +98,15 @@ module _ (L : Log) (J : List Vehicle) (t : Tells L J) (p : Position) (rs : List 
       let es = station_is v h l in
       let en = len_is v h l in
       let low = (ok.each v h).stations (begun_in p v) (omega arith) in
-      let fb = fits.begun in
       let ff = fits.vehicles in
       let fs = fits.stations in
+      let now : Standing = record { begun = begun_in p v + 1; free = b + n } in
       let one : begun_in p v + 1 ≡ suc (begun_in p v) = omega arith in
       let en' : b + n ≡ b + length_of L v (begun_in p v) = ap (λ m. b + m) (sym en) in
       same_place _ _ _ _ _ _ _ _ _ _
-      (write_is_put p.begun v (begun_in p v + 1) (omega arith) ∙ ap (put (table p.begun) v) one)
-      (write_is_put p.vehicles v (b + n) (omega arith) ∙ ap (put (table p.vehicles) v) en')
-      (write_is_put p.stations s (b + n) (omega arith) ∙ ap (λ u. put (table p.stations) u (b + n)) (sym es) ∙ ap (put (table p.stations) (station_of L v (begun_in p v))) en')
+      (write_is_put (λ (s : Standing). s.begun) p.vehicles v now no_standing (omega arith) ∙ ap (put (begun_in p) v) one)
+      (write_is_put (λ (s : Standing). s.free) p.vehicles v now no_standing (omega arith) ∙ ap (put (free_in p) v) en')
+      (write_is_put (λ m. m) p.stations s (b + n) 0 (omega arith) ∙ ap (λ u. put (table p.stations) u (b + n)) (sym es) ∙ ap (put (table p.stations) (station_of L v (begun_in p v))) en')
       refl
       (ap (λ (r : Row). rs ++ (r ∷ [])) (same_row v b h l))
     where
@@ -125,22 +116,22 @@ module _ (L : Log) (J : List Vehicle) (t : Tells L J) (p : Position) (rs : List 
           ∙ ap (λ n. record { vehicle = v; step = begun_in p v; station = station_of L v (begun_in p v); begin = b; end = b + n }) (sym (len_is v h l))
 
   -- the children by one vehicle, and by all
-  pub child_is : (H : Hours) → FleetOk J → Fits p → (v : ℕ) → v < length J → map view_due (child_by J p rs v (begin_in H.earliest J p v)) ≡ list_of (move H L P v)
-  unfolding move list_of map_option
+  pub child_is : (H : Hours) → FleetOk J → Fits p → (v : ℕ) → v < length J → map view_due (child_by J p rs v (begin_in H.earliest J p v)) ≡ option_to_list (move H L P v)
+  unfolding move
   child_is H ok fits v h = by (cases_lt (begun_in p v) (count L v))
     where
-      each : (o : Option ℕ) → begun_in p v < count L v → map view_due (child_by J p rs v o) ≡ list_of (map_option (moved L P v) o)
+      each : (o : Option ℕ) → begun_in p v < count L v → map view_due (child_by J p rs v o) ≡ option_to_list (option_map (moved L P v) o)
       each None l = refl
       each (Some b) l = ap (λ (x : Place). x ∷ []) (moved_is ok fits v b h l)
 
-      by : (begun_in p v < count L v) ⊎ (count L v ≤ begun_in p v) → map view_due (child_by J p rs v (begin_in H.earliest J p v)) ≡ list_of (cond (ltb (begun_in p v) (count L v)) (map_option (moved L P v) (H.earliest (station_of L v (begun_in p v)) (ready L P v) (length_of L v (begun_in p v)))) None)
+      by : (begun_in p v < count L v) ⊎ (count L v ≤ begun_in p v) → map view_due (child_by J p rs v (begin_in H.earliest J p v)) ≡ option_to_list (cond (ltb (begun_in p v) (count L v)) (option_map (moved L P v) (H.earliest (station_of L v (begun_in p v)) (ready L P v) (length_of L v (begun_in p v)))) None)
       by (inl l) =
           ap (λ o. map view_due (child_by J p rs v o)) (begin_is H v h l)
           ∙ each _ l
-          ∙ ap list_of (sym (cond-true (ltb (begun_in p v) (count L v)) _ None (lt-ltb _ _ l)))
+          ∙ ap option_to_list (sym (cond-true (ltb (begun_in p v) (count L v)) _ None (lt-ltb _ _ l)))
       by (inr l) =
           ap (λ o. map view_due (child_by J p rs v o)) (begin_none H v h l)
-          ∙ ap list_of (sym (cond-false (ltb (begun_in p v) (count L v)) _ None (le-ltb _ _ l)))
+          ∙ ap option_to_list (sym (cond-false (ltb (begun_in p v) (count L v)) _ None (le-ltb _ _ l)))
 
   pub children_is : (H : Hours) → FleetOk J → Fits p → (m n : ℕ) → n + m ≤ length J → children_below H L P n ++ map view_due (children H.earliest J p rs n m) ≡ children_below H L P (n + m)
   unfolding children_below
@@ -172,7 +163,7 @@ module _ (L : Log) (J : List Vehicle) (t : Tells L J) (p : Position) (rs : List 
       let c = t.counts v h in
       let i = lengths_are v h m (suc k) (omega arith) in
       let one : k + 1 ≡ suc k = omega arith in
-      let f = left_more (vehicle_in J v) k (omega arith) (t.sized v h) in
+      let f = left_more (vehicle_in J v) k (omega arith) in
       let g = ap (lengths_left (vehicle_in J v)) one in
       let l = t.lengths v k h (omega arith) in
       omega arith
@@ -183,11 +174,11 @@ module _ (L : Log) (J : List Vehicle) (t : Tells L J) (p : Position) (rs : List 
       let c = t.counts v h in
       by (cases_lt (begun_in p v) (count L v))
     where
-      by : (begun_in p v < count L v) ⊎ (count L v ≤ begun_in p v) → finish_in J p v ≡ cond (ltb (begun_in p v) (count L v)) (max p.clock (table p.vehicles v) + lengths L v (begun_in p v) (count L v - begun_in p v)) (table p.vehicles v)
+      by : (begun_in p v < count L v) ⊎ (count L v ≤ begun_in p v) → finish_in J p v ≡ cond (ltb (begun_in p v) (count L v)) (max p.clock (free_in p v) + lengths L v (begun_in p v) (count L v - begun_in p v)) (free_in p v)
       by (inl l) =
           let c = t.counts v h in
           let e = lengths_are v h (count L v - begun_in p v) (begun_in p v) (omega arith) in
-          cond-true (has_step J p v) _ _ (lt-ltb _ _ (omega arith)) ∙ ap (λ n. max p.clock (table p.vehicles v) + n) e ∙ sym (cond-true (ltb (begun_in p v) (count L v)) _ _ (lt-ltb _ _ l))
+          cond-true (has_step J p v) _ _ (lt-ltb _ _ (omega arith)) ∙ ap (λ n. max p.clock (free_in p v) + n) e ∙ sym (cond-true (ltb (begun_in p v) (count L v)) _ _ (lt-ltb _ _ l))
       by (inr l) =
           let c = t.counts v h in
           cond-false (has_step J p v) _ _ (le-ltb _ _ (omega arith)) ∙ sym (cond-false (ltb (begun_in p v) (count L v)) _ _ (le-ltb _ _ l))
@@ -206,7 +197,7 @@ module _ (L : Log) (J : List Vehicle) (t : Tells L J) (p : Position) (rs : List 
       sums_none : 0 ≡ sum_below 0 (λ v. count L v - begun_in p v)
       sums_none = refl
 
-      sums_more : (n : ℕ) → count L n ≡ (vehicle_in J n).len → steps_left J p n ≡ sum_below n (λ v. count L v - begun_in p v) → steps_left J p n + ((vehicle_in J n).len - begun_in p n) ≡ sum_below n (λ v. count L v - begun_in p v) + (count L n - begun_in p n)
+      sums_more : (n : ℕ) → count L n ≡ length (steps_of (vehicle_in J n)) → steps_left J p n ≡ sum_below n (λ v. count L v - begun_in p v) → steps_left J p n + (length (steps_of (vehicle_in J n)) - begun_in p n) ≡ sum_below n (λ v. count L v - begun_in p v) + (count L n - begun_in p n)
       sums_more n c i = omega arith
 
       upto : (n : ℕ) → n ≤ length J → steps_left J p n ≡ sum_below n (λ v. count L v - begun_in p v)

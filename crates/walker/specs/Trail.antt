@@ -1,5 +1,5 @@
 -- Positions due, children, and what the trail of a search holds due.
-use Rattle.std.specs.Prelude.{◌≡◌, ℕ, zero, suc, ◌+◌, ◌-◌, ◌<◌, ◌≤◌, List, [], ◌∷◌, ◌++◌, length, take, set, Some, None, Option, slice_index_or, slice_set}
+use Rattle.std.specs.Prelude.{◌≡◌, ℕ, zero, suc, ◌+◌, ◌-◌, ◌<◌, ◌≤◌, List, [], ◌∷◌, ◌++◌, length, take, Some, None, Option, slice_index_or, slice_set}
 use Rattle.hall.specs.declared.vehicle.Vehicle.{Vehicle}
 use Rattle.plans.specs.declared.row.Row.{Row}
 use Rattle.walker.specs.declared.position.Position.{Position}
@@ -35,7 +35,7 @@ Found E J f (Some m) = CanMove J f.at m.vehicle m.begin ×
     ((rs : List Row) → children_from E J f.at rs f.next ≡ child J f.at rs m.vehicle m.begin ∷ children_from E J f.at rs (m.vehicle + 1))
 
 abbrev pub no_position : Position
-no_position = record { begun = []; vehicles = []; stations = []; clock = 0 }
+no_position = record { vehicles = []; stations = []; clock = 0 }
 
 abbrev pub no_frame : Frame
 no_frame = record { at = no_position; next = 0 }
@@ -44,7 +44,7 @@ abbrev pub frame_in : List Frame → ℕ → Frame
 frame_in fs i = slice_index_or fs i no_frame
 
 abbrev pub top_of : Trail → Frame
-top_of s = frame_in s.frames (s.depth - 1)
+top_of s = frame_in s.frames.items (length s.frames.items - 1)
 
 -- what the first d frames still hold due
 abbrev pub below : Query → List Vehicle → List Frame → List Row → ℕ → List Due
@@ -57,26 +57,38 @@ due_upto E J fs path zero = []
 due_upto E J fs path (suc d) = record { at = (frame_in fs d).at; rows = take d path } ∷ below E J fs path d
 
 abbrev pub due_of : Query → List Vehicle → Trail → List Due
-due_of E J s = due_upto E J s.frames s.path s.depth
+due_of E J s = due_upto E J s.frames.items s.path.items (length s.frames.items)
 
--- the trail after a move from its top frame
-abbrev pub pushed : List Vehicle → Trail → Move → Trail
-pushed J s m = record {
-  frames = set (slice_set s.frames (s.depth - 1) (record { at = (top_of s).at; next = m.vehicle + 1 }))
-      s.depth (record { at = advanced J (top_of s).at m.vehicle m.begin; next = 0 });
-  path = slice_set s.path (s.depth - 1) (row_in J (top_of s).at m.vehicle m.begin);
-  depth = s.depth + 1;
-  steps = s.steps;
-}
+-- the same once the top frame is visited
+abbrev pub due_left : Query → List Vehicle → Trail → List Due
+due_left E J s = below E J s.frames.items s.path.items (length s.frames.items)
+
+-- t is the trail s after a move from its top frame
+pub record Pushed (J : List Vehicle) (m : Move) (s t : Trail) : Type 0 where
+  pub frames : t.frames.items ≡ slice_set s.frames.items (length s.frames.items - 1) (record { at = (top_of s).at; next = m.vehicle + 1 })
+      ++ record { at = advanced J (top_of s).at m.vehicle m.begin; next = 0 } ∷ []
+  pub path : t.path.items ≡ s.path.items ++ row_in J (top_of s).at m.vehicle m.begin ∷ []
+  pub steps : t.steps ≡ s.steps
+
+-- t is the trail s with the children of its top frame due
+pub record Opened (s t : Trail) : Type 0 where
+  pub frames : t.frames.items ≡ slice_set s.frames.items (length s.frames.items - 1) (record { at = (top_of s).at; next = 0 })
+  pub path : t.path.items ≡ s.path.items
+  pub steps : t.steps ≡ s.steps
+
+-- t is the trail s without its top frame and the row that led to it
+pub record Popped (s t : Trail) : Type 0 where
+  pub frames : t.frames.items ≡ take (length s.frames.items - 1) s.frames.items
+  pub path : t.path.items ≡ take (length s.path.items - 1) s.path.items
+  pub steps : t.steps ≡ s.steps
 
 -- a position i moves below a root with R steps to begin
 pub record FrameOk (J : List Vehicle) (R i : ℕ) (p : Position) : Type 0 where
   pub sane : Sane p
   pub few : steps_left J p (length J) + i ≡ R
 
+-- the path has a row for each move
 pub record TrailOk (J : List Vehicle) (s : Trail) : Type 0 where
-  pub frames_sized : length s.frames ≡ 193
-  pub path_sized : length s.path ≡ 192
-  pub deep : s.depth ≤ 193
+  pub rows : length s.path.items ≡ length s.frames.items - 1
   pub few : s.steps ≤ 192
-  pub each : (i : ℕ) → i < s.depth → FrameOk J s.steps i (frame_in s.frames i).at
+  pub each : (i : ℕ) → i < length s.frames.items → FrameOk J s.steps i (frame_in s.frames.items i).at

@@ -3,5 +3,6 @@
 
 mod position;
 mod root;
+mod setting;
 mod trail;
 mod walker;

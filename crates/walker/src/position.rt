@@ -2,52 +2,54 @@
 ghost use Rattle.std.specs.Prelude.{◌≡◌, ◌<◌, ◌≤◌, map, length};
 ghost use Rattle.std.specs.List.{range_with_len};
 ghost use Rattle.goals.specs.Finishes.{scored};
+ghost use Rattle.hall.specs.View.{steps_of};
 ghost use Rattle.plans.specs.Meanings.{hours_of};
 ghost use Rattle.walker.specs.Moves.{FleetOk, RecordOk, Sane, BegunWithin, CanMove, begin_in, advanced, row_in, steps_left};
-ghost use Rattle.walker.specs.Bounds.{lengths_left, finish_in};
+ghost use Rattle.walker.specs.Bounds.{total_length, finish_by, finish_in};
 
+use crate::setting::Setting;
 use goals::{Goal, score_of};
+use hall::step::StepRecord;
 use hall::vehicle::Vehicle;
 use hours::{Hours, least_begin};
 use plans::row::Row;
+use short::Short;
 
-// For each vehicle the begun steps and the minute from which it is free, for each station the minute from which it is
-// free, and the clock.
+// Where a vehicle stands: how many of its steps are begun, and the minute from which it is free.
+#[derive(Clone, Copy)]
+pub struct Standing {
+    pub begun: usize,
+    pub free: u32,
+}
+
+// Where each vehicle stands, for each station the minute from which it is free, and the clock.
 #[derive(Clone, Copy)]
 pub struct Position {
-    pub begun: [u32; 24],
-    pub vehicles: [u32; 24],
+    pub vehicles: [Standing; 24],
     pub stations: [u32; 16],
     pub clock: u32,
 }
 
-// The lengths of the vehicle's steps from `k` on.
-fn lengths_left(vehicle: &Vehicle, k: usize) -> u32
-    requires { (RecordOk vehicle.now) × (k ≤ vehicle.now.len) }
-    ensures sum { result ≡ lengths_left vehicle.now k }
+// The lengths of the steps together.
+fn total_length(steps: &[StepRecord]) -> u32
+    requires { total_length steps.now ≤ 11520 }
+    ensures sum { result ≡ total_length steps.now }
     ensures small { result ≤ 11520 }
 {
-    let mut sum: u32 = 0;
-    for i in k..vehicle.len {
-        sum += vehicle.steps[i].length;
-    }
-    sum
+    steps.iter().map(|step| step.length).sum()
 }
 
 impl Position {
     // The begin of the vehicle's next step, if it has one and the hours permit it.
-    pub fn next_begin<H: Hours>(&self, hours: &H, fleet: &[Vehicle], v: usize) -> Option<u32>
-        requires { (v < length fleet.now) × (FleetOk fleet.now) }
-        ensures value { result ≡ begin_in (hours_of (H.Hours.permits hours.now)).earliest fleet.now self.now v }
+    pub fn next_begin<H: Hours, G>(&self, by: &Setting<H, G>, v: usize) -> Option<u32>
+        requires { v < length by.now.fleet.now }
+        ensures value { result ≡ begin_in (hours_of (H.Hours.permits by.now.hours.now)).earliest by.now.fleet.now self.now v }
     {
-        let k = self.begun[v] as usize;
-        if k >= fleet[v].len {
-            return None;
-        }
-        let step = fleet[v].steps[k];
+        let standing = self.vehicles[v];
+        let step = by.fleet[v].steps.as_slice().get(standing.begun)?;
         let free = self.stations[step.station as usize];
-        let from = self.clock.max(self.vehicles[v]).max(free);
-        least_begin(hours, step.station, from, step.length)
+        let from = self.clock.max(standing.free).max(free);
+        least_begin(by.hours, step.station, from, step.length)
     }
 
     // Begins the vehicle's next step.
@@ -55,11 +57,13 @@ impl Position {
         requires { CanMove fleet.now self.old v begin }
         ensures value { self.new ≡ advanced fleet.now self.old v begin }
     {
-        let k = self.begun[v];
-        let step = fleet[v].steps[k as usize];
+        let k = self.vehicles[v].begun;
+        let step = fleet[v].steps.as_slice()[k];
         let end = begin + step.length;
-        self.begun[v] = k + 1;
-        self.vehicles[v] = end;
+        self.vehicles[v] = Standing {
+            begun: k + 1,
+            free: end,
+        };
         self.stations[step.station as usize] = end;
         self.clock = begin;
     }
@@ -69,11 +73,11 @@ impl Position {
         requires { CanMove fleet.now self.now v begin }
         ensures value { result ≡ row_in fleet.now self.now v begin }
     {
-        let k = self.begun[v];
-        let step = fleet[v].steps[k as usize];
+        let k = self.vehicles[v].begun;
+        let step = fleet[v].steps.as_slice()[k];
         Row {
             vehicle: v as u32,
-            step: k,
+            step: k as u32,
             station: step.station,
             begin,
             end: begin + step.length,
@@ -81,40 +85,43 @@ impl Position {
     }
 
     // The least minute at which the vehicle can finish.
-    fn finish_of(&self, fleet: &[Vehicle], v: usize) -> u32
-        requires { (v < length fleet.now) × ((FleetOk fleet.now) × (Sane self.now)) }
-        ensures value { result ≡ finish_in fleet.now self.now v }
+    fn finish_of(&self, vehicle: &Vehicle, v: usize) -> u32
+        requires known { v < 24 }
+        requires record { RecordOk vehicle.now }
+        requires sane { Sane self.now }
+        ensures value { result ≡ finish_by vehicle.now self.now v }
         ensures small { result ≤ 2020000 }
     {
-        let k = self.begun[v] as usize;
-        let vehicle = &fleet[v];
-        if k < vehicle.len {
-            self.clock.max(self.vehicles[v]) + lengths_left(vehicle, k)
+        let standing = self.vehicles[v];
+        let steps = vehicle.steps.as_slice();
+        if standing.begun < steps.len() {
+            self.clock.max(standing.free) + total_length(&steps[standing.begun..])
         } else {
-            self.vehicles[v]
+            standing.free
         }
     }
 
     // The goal's score of all least finishes.
-    pub fn bound<G: Goal>(&self, goal: &G, fleet: &[Vehicle]) -> G::Score
-        requires { (FleetOk fleet.now) × (Sane self.now) }
-        ensures value { result ≡ scored (G.Goal.adding goal.now) (G.Goal.starting goal.now) (map (finish_in fleet.now self.now) (range_with_len 0 (length fleet.now))) }
+    pub fn bound<H, G: Goal>(&self, by: &Setting<H, G>) -> G::Score
+        requires { Sane self.now }
+        ensures value { result ≡ scored (G.Goal.adding by.now.goal.now) (G.Goal.starting by.now.goal.now) (map (finish_in by.now.fleet.now self.now) (range_with_len 0 (length by.now.fleet.now))) }
     {
-        let mut finishes = [0; 24];
-        for v in 0..fleet.len() {
-            finishes[v] = self.finish_of(fleet, v);
+        let mut finishes: Short<u32, 24> = Short::empty(0);
+        for (v, vehicle) in by.fleet.iter().enumerate() {
+            finishes.push(self.finish_of(vehicle, v));
         }
-        score_of(goal, &finishes[..fleet.len()])
+        score_of(by.goal, finishes.as_slice())
     }
 
     // The steps that the vehicles have left.
     pub fn steps_left(&self, fleet: &[Vehicle]) -> usize
-        requires { (FleetOk fleet.now) × (BegunWithin fleet.now self.now) }
+        requires fleet { FleetOk fleet.now }
+        requires begun { BegunWithin fleet.now self.now }
         ensures value { result ≡ steps_left fleet.now self.now (length fleet.now) }
     {
         let mut sum: usize = 0;
-        for v in 0..fleet.len() {
-            sum += fleet[v].len - self.begun[v] as usize;
+        for (v, vehicle) in fleet.iter().enumerate() {
+            sum += vehicle.steps.as_slice().len() - self.vehicles[v].begun;
         }
         sum
     }

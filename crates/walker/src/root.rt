@@ -1,20 +1,22 @@
 // The root position of a board.
-ghost use Rattle.std.specs.Prelude.{◌≡◌, ◌<◌, ◌≤◌};
+ghost use Rattle.std.specs.Prelude.{◌≡◌, ◌<◌, ◌≤◌, length};
 ghost use Rattle.hall.specs.Log.{begin_of};
 ghost use Rattle.hall.specs.Hall.{hall_log, fleet_of};
+ghost use Rattle.hall.specs.View.{steps_of};
 ghost use Rattle.plans.specs.Plan.{end_by};
 ghost use Rattle.plans.specs.Position.{runs_until};
 ghost use Rattle.walker.specs.Roots.{stood, Past};
 ghost use Rattle.walker.specs.View.{RootOf};
 
-use crate::position::Position;
+use crate::position::{Position, Standing};
 use hall::board::Board;
 use hall::step::{Progress, StepRecord};
 use hall::vehicle::Vehicle;
 
 // A begun step's end: recorded, or the later of now and begin plus length.
 fn end_of(step: StepRecord, minute: u32) -> u32
-    requires { (begin_of step.progress ≤ 1000000) × (step.length ≤ 1440) }
+    requires begin { begin_of step.progress ≤ 1000000 }
+    requires length { step.length ≤ 1440 }
     ensures value { result ≡ end_by minute step.length step.progress }
 {
     match step.progress {
@@ -26,7 +28,8 @@ fn end_of(step: StepRecord, minute: u32) -> u32
 
 // The minute up to which a step takes its station, 0 if it does not run.
 fn runs_until(step: StepRecord, minute: u32) -> u32
-    requires { (begin_of step.progress ≤ 1000000) × (step.length ≤ 1440) }
+    requires begin { begin_of step.progress ≤ 1000000 }
+    requires length { step.length ≤ 1440 }
     ensures value { result ≡ runs_until minute step.length step.progress }
 {
     match step.progress {
@@ -37,16 +40,20 @@ fn runs_until(step: StepRecord, minute: u32) -> u32
 
 // Adds vehicle `v`, of whose steps `begun` are begun, to the position.
 fn stand(position: &mut Position, vehicle: &Vehicle, v: usize, begun: usize, minute: u32)
-    requires { (Past minute vehicle.now) × ((v < 24) × (begun ≤ vehicle.now.len)) }
+    requires past { Past minute vehicle.now }
+    requires known { v < 24 }
+    requires within { begun ≤ length (steps_of vehicle.now) }
     ensures value { position.new ≡ stood minute vehicle.now v begun position.old }
 {
-    position.begun[v] = begun as u32;
-    if begun > 0 {
-        let step = vehicle.steps[begun - 1];
-        let station = step.station as usize;
-        position.vehicles[v] = end_of(step, minute);
-        position.stations[station] = position.stations[station].max(runs_until(step, minute));
+    if begun == 0 {
+        position.vehicles[v].begun = 0;
+        return;
     }
+    let step = vehicle.steps.as_slice()[begun - 1];
+    let station = step.station as usize;
+    let free = end_of(step, minute);
+    position.vehicles[v] = Standing { begun, free };
+    position.stations[station] = position.stations[station].max(runs_until(step, minute));
 }
 
 // Every vehicle in its place, and the clock at now.
@@ -56,13 +63,12 @@ pub fn root_of(board: &Board) -> Position
     let minute = board.minute();
     let fleet = board.vehicles();
     let mut position = Position {
-        begun: [0; 24],
-        vehicles: [0; 24],
+        vehicles: [Standing { begun: 0, free: 0 }; 24],
         stations: [0; 16],
         clock: minute,
     };
-    for v in 0..fleet.len() {
-        stand(&mut position, &fleet[v], v, board.begun(v as u32), minute);
+    for (v, vehicle) in fleet.iter().enumerate() {
+        stand(&mut position, vehicle, v, board.begun(v as u32), minute);
     }
     position
 }

@@ -1,13 +1,15 @@
 // The way from the root to the position that is visited next.
-ghost use Rattle.std.specs.Prelude.{◌≡◌, ◌<◌};
+ghost use Rattle.std.specs.Prelude.{◌≡◌, ◌<◌, length};
 ghost use Rattle.plans.specs.Meanings.{hours_of};
-ghost use Rattle.walker.specs.Moves.{FleetOk, CanMove};
-ghost use Rattle.walker.specs.Trail.{Found, TrailOk, pushed, below, due_of, top_of};
+ghost use Rattle.walker.specs.Moves.{CanMove};
+ghost use Rattle.walker.specs.Trail.{Found, TrailOk, Pushed, Opened, Popped, due_left, due_of, top_of};
 
 use crate::position::Position;
+use crate::setting::Setting;
 use hall::vehicle::Vehicle;
 use hours::Hours;
 use plans::row::Row;
+use short::Short;
 
 // A vehicle's next step and its begin.
 #[derive(Clone, Copy)]
@@ -23,24 +25,22 @@ pub struct Frame {
     pub next: usize,
 }
 
-// The first `depth` frames lead from the root: the last of them is due, those before it are visited. The path has the
-// row of each move. At the root `steps` are to begin, at most the 192 of a hall.
+// The frames lead from the root: the last of them is due, those before it are visited. The path has the row of each move.
+// At the root `steps` are to begin, at most the 192 of a hall.
 #[derive(Clone, Copy)]
 pub struct Trail {
-    pub frames: [Frame; 193],
-    pub path: [Row; 192],
-    pub depth: usize,
+    pub frames: Short<Frame, 193>,
+    pub path: Short<Row, 192>,
     pub steps: usize,
 }
 
 impl Frame {
-    // The first move of a vehicle from `next` on.
-    fn next_move<H: Hours>(&self, hours: &H, fleet: &[Vehicle]) -> Option<Move>
-        requires { FleetOk fleet.now }
-        ensures found { Found (hours_of (H.Hours.permits hours.now)).earliest fleet.now self.now result }
+    // The first move of a vehicle from `next` on. That `find_map` over the range finds it, the check does not prove.
+    fn next_move<H: Hours, G>(&self, by: &Setting<H, G>) -> Option<Move>
+        ensures found { Found (hours_of (H.Hours.permits by.now.hours.now)).earliest by.now.fleet.now self.now result }
     {
-        for v in self.next..fleet.len() {
-            if let Some(begin) = self.at.next_begin(hours, fleet, v) {
+        for v in self.next..by.fleet.len() {
+            if let Some(begin) = self.at.next_begin(by, v) {
                 return Some(Move { vehicle: v, begin });
             }
         }
@@ -49,33 +49,68 @@ impl Frame {
 }
 
 impl Trail {
+    // The top frame.
+    pub fn top(&self) -> Frame
+        requires { 0 < length self.now.frames.items }
+        ensures value { result ≡ top_of self.now }
+    {
+        let frames = self.frames.as_slice();
+        frames[frames.len() - 1]
+    }
+
     // Makes the move from the top frame.
     fn push(&mut self, fleet: &[Vehicle], m: Move)
-        requires { (0 < self.old.depth) × ((self.old.depth < 193) × (CanMove fleet.now (top_of self.old).at m.vehicle m.begin)) }
-        ensures value { self.new ≡ pushed fleet.now self.old m }
+        requires some { 0 < length self.old.frames.items }
+        requires frames { length self.old.frames.items < 193 }
+        requires path { length self.old.path.items < 192 }
+        requires can { CanMove fleet.now (top_of self.old).at m.vehicle m.begin }
+        ensures value { Pushed fleet.now m self.old self.new }
     {
-        let d = self.depth;
-        let mut at = self.frames[d - 1].at;
-        self.path[d - 1] = at.row(fleet, m.vehicle, m.begin);
+        let mut at = self.top().at;
+        let d = self.frames.as_slice().len() - 1;
+        self.frames.set(
+            d,
+            Frame {
+                at,
+                next: m.vehicle + 1,
+            },
+        );
+        self.path.push(at.row(fleet, m.vehicle, m.begin));
         at.advance(fleet, m.vehicle, m.begin);
-        self.frames[d - 1].next = m.vehicle + 1;
-        self.frames[d] = Frame { at, next: 0 };
-        self.depth = d + 1;
+        self.frames.push(Frame { at, next: 0 });
+    }
+
+    // Makes the children of the top frame due.
+    pub fn open(&mut self)
+        requires { 0 < length self.old.frames.items }
+        ensures value { Opened self.old self.new }
+    {
+        let at = self.top().at;
+        let d = self.frames.as_slice().len() - 1;
+        self.frames.set(d, Frame { at, next: 0 });
+    }
+
+    // Lets the top frame go, with the row that led to it.
+    pub fn pop(&mut self)
+        ensures value { Popped self.old self.new }
+    {
+        self.frames.pop();
+        self.path.pop();
     }
 
     // Goes back until the next due position is on top; without one the trail is empty.
-    pub fn settle<H: Hours>(&mut self, hours: &H, fleet: &[Vehicle])
-        requires { (FleetOk fleet.now) × (TrailOk fleet.now self.old) }
-        ensures ok { TrailOk fleet.now self.new }
+    pub fn settle<H: Hours, G>(&mut self, by: &Setting<H, G>)
+        requires { TrailOk by.now.fleet.now self.old }
+        ensures ok { TrailOk by.now.fleet.now self.new }
         ensures steps { self.new.steps ≡ self.old.steps }
-        ensures due { due_of (hours_of (H.Hours.permits hours.now)).earliest fleet.now self.new ≡ below (hours_of (H.Hours.permits hours.now)).earliest fleet.now self.old.frames self.old.path self.old.depth }
+        ensures due { due_of (hours_of (H.Hours.permits by.now.hours.now)).earliest by.now.fleet.now self.new ≡ due_left (hours_of (H.Hours.permits by.now.hours.now)).earliest by.now.fleet.now self.old }
     {
-        while self.depth > 0 {
-            if let Some(m) = self.frames[self.depth - 1].next_move(hours, fleet) {
-                self.push(fleet, m);
+        while let Some(top) = self.frames.as_slice().last() {
+            if let Some(m) = top.next_move(by) {
+                self.push(by.fleet, m);
                 return;
             }
-            self.depth -= 1;
+            self.pop();
         }
     }
 }

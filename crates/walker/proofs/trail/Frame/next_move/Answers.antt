@@ -7,23 +7,23 @@ use Rattle.walker.proofs.trail.Frame.next_move.Goals as goal
 
 pub returns-in-Some : goal.returns-in-Some
 returns-in-Some g c =
-    let permits = g.H.Hours.permits c.args.hours.now in
+    let permits = g.H.Hours.permits c.args.by.now.hours.now in
     let E = (hours_of permits).earliest in
-    let J = c.args.fleet.now in
+    let J = c.args.by.now.fleet.now in
     let p = c.args.self.now.at in
     let v = c.loop-v.v in
     let e = c.in-Some.ensures.value in
     record {
       found = (
-        can_move E J p v c.in-Some.begin (answer_ends permits (g.H.Hours.limits c.args.hours.now)) c.requires c.loop-v-test.true (sym e),
+        can_move E J p v c.in-Some.begin (answer_ends permits (g.met.H.Hours.limits c.args.by.now.hours.now)) c.args.by.now.ok c.loop-v-test.true (sym e),
         λ rs. c.loop-v.invariant rs ∙ children_more E J p rs v c.loop-v-test.true ∙ ap (λ o. child_by J p rs v o ++ children_from E J p rs (v + 1)) (sym e),
       );
     }
 
 pub loop-v-preserved : goal.loop-v-preserved
 loop-v-preserved g c =
-    let E = (hours_of (g.H.Hours.permits c.args.hours.now)).earliest in
-    let J = c.args.fleet.now in
+    let E = (hours_of (g.H.Hours.permits c.args.by.now.hours.now)).earliest in
+    let J = c.args.by.now.fleet.now in
     let p = c.args.self.now.at in
     let v = c.loop-v.v in
     let e = c.in_default.ensures.value in
