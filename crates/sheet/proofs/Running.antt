@@ -11,9 +11,8 @@ use Rattle.sheet.specs.declared.fault.SheetFault.TheVariants.{AtLine}
 use Rattle.sheet.specs.declared.kind.Kind.{Kind}
 use Rattle.sheet.specs.declared.kind.Kind.TheVariants.{Vehicle, Begin, Finish, Pass}
 use Rattle.sheet.specs.declared.run.Entry.{Entry}
-use Rattle.sheet.specs.Letters.{letter_of}
 use Rattle.sheet.specs.Line.{line_answer, line_log}
-use Rattle.sheet.specs.Reading.{letter}
+use Rattle.sheet.specs.Reading.{letter, letter_of}
 use Rattle.sheet.specs.Run.{entry_for, entry_of, next_of, log_next, number_next, Lettered}
 
 -- past the text nothing is left, wherever that is

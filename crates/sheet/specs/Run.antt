@@ -9,9 +9,8 @@ use Rattle.sheet.specs.declared.fault.SheetFault.TheVariants.{TooLong, AtLine}
 use Rattle.sheet.specs.declared.kind.Kind.{Kind}
 use Rattle.sheet.specs.declared.run.Entry.{Entry}
 use Rattle.sheet.specs.declared.run.Cursor.{Cursor}
-use Rattle.sheet.specs.Letters.{letter_of}
 use Rattle.sheet.specs.Line.{line_answer, line_log}
-use Rattle.sheet.specs.Reading.{letter}
+use Rattle.sheet.specs.Reading.{letter, letter_of}
 
 -- the lines of the text that are left
 abbrev pub left : List ℕ → Cursor → List (List ℕ)
