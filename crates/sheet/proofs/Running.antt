@@ -13,7 +13,7 @@ use Rattle.sheet.specs.declared.kind.Kind.TheVariants.{Vehicle, Begin, Finish, P
 use Rattle.sheet.specs.declared.run.Entry.{Entry}
 use Rattle.sheet.specs.Line.{line_answer, line_log}
 use Rattle.sheet.specs.Reading.{letter, letter_of}
-use Rattle.sheet.specs.Run.{entry_for, entry_of, next_of, log_next, number_next, Lettered}
+use Rattle.sheet.specs.Run.{entry_for, entry_of, next_of, log_next, Lettered}
 
 -- past the text nothing is left, wherever that is
 pub past_same : (xs : List ℕ) (n : ℕ) → drop (min n (length xs)) xs ≡ drop n xs
@@ -33,9 +33,6 @@ module _ (xs : List ℕ) (at end k : ℕ) (log : Log) (h : at < length xs) (is :
 
   pub next_rest : (behind : ℕ) → behind ≡ min (end + 1) (length xs) → ended 10 (drop behind xs) ≡ drop 1 (ended 10 (drop at xs))
   next_rest behind e = ap (λ i. ended 10 (drop i xs)) e ∙ ap (ended 10) (past_same xs (end + 1)) ∙ sym (ap (drop 1) lines)
-
-  pub next_number : k + 1 ≡ number_next k (ended 10 (drop at xs))
-  next_number = sym (ap (number_next k) lines)
 
   -- the line answered a
   module _ (a : Result ℕ LineFault) (called : a ≡ line_answer log (take (end - at) (drop at xs))) where
