@@ -1,4 +1,4 @@
--- Laws of the fields of a line: how the library's `split` gives them, their offsets and values, and steps.
+-- Laws of the fields of a line: how the library's `split` gives them, their offsets and values.
 use Rattle.std.proofs.Common.{◌≡◌, ℕ, zero, suc, ◌+◌, ◌-◌, ◌<◌, ◌≤◌, min, Bool, true, false, cond, eqb, List, [], ◌∷◌, ◌++◌, length, get_or, take, drop, Some, None, Ok, Err, Option, Result, sym, refl, ap, ◌∙◌, append_assoc, append-nil, add-one, arith, map}
 use Rattle.std.proofs.lemmas.Iterator.{YieldsList, YieldsList-from_take, YieldsList-from_map, maps}
 use Rattle.std.proofs.lemmas.Iterator.Adapters.{YieldsList-from_skip}
@@ -18,7 +18,7 @@ use Rattle.text.specs.Split.{before, parted, tally}
 use Rattle.text.proofs.Splits.{parted_first, parted_some, length-parted}
 use Rattle.sheet.specs.declared.fault.LineFault.{LineFault}
 use Rattle.sheet.specs.declared.kind.Kind.{Kind}
-use Rattle.sheet.specs.Reading.{offset_of, on_ok, spotted, value_of, value_next, values_of, steps_of}
+use Rattle.sheet.specs.Reading.{offset_of, on_ok, spotted, value_of, value_next, values_of}
 
 -- a slice that is cut at each tab gives the fields of its line
 pub fields_given : {F : Type 0} {s : _} (g : Mut F (Bor ℕ × Unit {0}) Bool) {f : F} (xs : List ℕ) → slice.split_rest s ≡ xs → slice.split_done s ≡ false → slice.split_callee s ≡ f
@@ -198,16 +198,3 @@ module _ (fs : List (List ℕ)) (n : ℕ) (p : ℕ × List ℕ) (turn : IsTurn f
     -- a field that is a number
     pub turn_more : (m : ℕ) → Ok m ≡ spotted p.0 (offset_of fs p.0) (value_of kind p.0 p.1) → values_left kind fs (ns ++ m ∷ []) (n + 1) ≡ values_left kind fs ns n
     turn_more m e = sym (ap (on_ok (λ ms. ns ++ ms)) (here (Ok m) e) ∙ on_ok_cons ns m (values_of kind (n + 1 + 1) (offset_of fs (n + 1 + 1)) (drop (n + 1 + 1) fs)))
-
--- a pair of numbers in front
-pub steps_pair : (p ns : List ℕ) → length p ≡ 2 → steps_of (p ++ ns) ≡ record { station = get_or p 0 0; length = get_or p 1 0 } ∷ steps_of ns
-steps_pair [] ns h = absurd (omega arith)
-steps_pair (s ∷ []) ns h = absurd (omega arith)
-steps_pair (s ∷ l ∷ []) ns h = refl
-steps_pair (s ∷ l ∷ m ∷ p) ns h = absurd (omega arith)
-
--- no pair is left
-pub steps_short : (ns : List ℕ) → length ns < 2 → steps_of ns ≡ []
-steps_short [] h = refl
-steps_short (n ∷ []) h = refl
-steps_short (n ∷ m ∷ ns) h = absurd (omega arith)

@@ -13,7 +13,7 @@ use Rattle.sheet.specs.declared.fault.Layer.TheVariants as layer
 use Rattle.sheet.specs.declared.fault.SheetFault.{SheetFault}
 use Rattle.sheet.specs.declared.run.Entry.{Entry}
 use Rattle.sheet.specs.Faults.{layer_number, sheet_report_of}
-use Rattle.sheet.specs.Letters.{letter_of}
+use Rattle.sheet.specs.Reading.{letter_of}
 use Rattle.sheet.specs.Texts.{fault_cells, fault_text, entry_cells, entry_text, sheet_answer}
 
 -- what printing the bytes t answers and leaves, where they are those of u

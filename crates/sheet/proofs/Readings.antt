@@ -1,9 +1,9 @@
 -- The ways through the reading of a line.
-use Rattle.std.proofs.Common.{◌≡◌, ℕ, ◌+◌, ◌≤◌, true, false, cond, eqb, List, [], ◌∷◌, length, get_or, take, drop, Some, None, Ok, Err, Option, Result, sym, refl, ap, ◌∙◌, arith}
+use Rattle.std.proofs.Common.{◌≡◌, ℕ, ◌+◌, ◌-◌, ◌≤◌, true, false, cond, eqb, List, [], ◌∷◌, length, get_or, take, drop, Some, None, Ok, Err, Option, Result, sym, refl, ap, ◌∙◌, arith}
 use Rattle.std.proofs.lemmas.Bool.Decides.{nat_tests}
 use Rattle.std.specs.Option.{ok_or}
 use Rattle.text.specs.Split.{before, parted, tally}
-use Rattle.text.proofs.Splits.{parted_first, before_take, before_cons, length-parted}
+use Rattle.text.proofs.Splits.{parted_first, piece_bytes, before_cons, length-parted}
 use Rattle.sheet.specs.declared.fault.LineFault.{LineFault}
 use Rattle.sheet.specs.declared.fault.LineFault.TheVariants.{KindUnknown, FieldCount}
 use Rattle.sheet.specs.declared.kind.Kind.{Kind}
@@ -46,7 +46,7 @@ unnamed fs (Some k) e h = cc
 -- the kind of bs ends at end
 module _ (bs : List ℕ) (end : ℕ) (is : end ≡ 0 + length (before 9 (drop 0 bs))) where
   first : take end bs ≡ before 9 bs
-  first = ap (λ n. take n bs) (let s : end ≡ length (before 9 bs) = omega arith in s) ∙ before_take 9 bs
+  first = ap (λ n. take n bs) (let s : end ≡ end - 0 = omega arith in s) ∙ piece_bytes 9 bs 0 end is
 
   kind_is : kind_of (take end bs) ≡ kind_of (get_or (parted 9 bs) 0 [])
   kind_is = ap kind_of (first ∙ ap (λ ps. get_or ps 0 []) (sym (parted_first 9 bs)))

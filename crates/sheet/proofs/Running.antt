@@ -4,17 +4,17 @@ use Rattle.std.proofs.lemmas.List.{drop_all}
 use Rattle.std.proofs.lemmas.Bool.{cases_lt}
 use Rattle.std.proofs.lemmas.Bool.Decides.{nat_tests}
 use Rattle.hall.specs.Log.{Log}
-use Rattle.text.specs.Split.{before, ended}
-use Rattle.text.proofs.Splits.{line_at}
+use Rattle.hall.specs.Rules.{Call}
+use Rattle.text.specs.Split.{before, ended, parted}
+use Rattle.text.proofs.Splits.{line_at, parted_first}
 use Rattle.sheet.specs.declared.fault.LineFault.{LineFault}
 use Rattle.sheet.specs.declared.fault.SheetFault.TheVariants.{AtLine}
 use Rattle.sheet.specs.declared.kind.Kind.{Kind}
 use Rattle.sheet.specs.declared.kind.Kind.TheVariants.{Vehicle, Begin, Finish, Pass}
-use Rattle.sheet.specs.declared.run.Entry.{Entry}
-use Rattle.sheet.specs.Letters.{letter_of}
-use Rattle.sheet.specs.Line.{line_answer, line_log}
-use Rattle.sheet.specs.Reading.{letter}
-use Rattle.sheet.specs.Run.{entry_for, entry_of, next_of, log_next, number_next, Lettered}
+use Rattle.sheet.proofs.Readings.{line_letter}
+use Rattle.sheet.specs.Line.{answer_read, line_answer, line_log}
+use Rattle.sheet.specs.Reading.{letter, letter_of, kind_of, fields_read, reading_of}
+use Rattle.sheet.specs.Run.{entry_for, entry_of, next_of, log_next, Lettered}
 
 -- past the text nothing is left, wherever that is
 pub past_same : (xs : List ℕ) (n : ℕ) → drop (min n (length xs)) xs ≡ drop n xs
@@ -35,9 +35,6 @@ module _ (xs : List ℕ) (at end k : ℕ) (log : Log) (h : at < length xs) (is :
   pub next_rest : (behind : ℕ) → behind ≡ min (end + 1) (length xs) → ended 10 (drop behind xs) ≡ drop 1 (ended 10 (drop at xs))
   next_rest behind e = ap (λ i. ended 10 (drop i xs)) e ∙ ap (ended 10) (past_same xs (end + 1)) ∙ sym (ap (drop 1) lines)
 
-  pub next_number : k + 1 ≡ number_next k (ended 10 (drop at xs))
-  next_number = sym (ap (number_next k) lines)
-
   -- the line answered a
   module _ (a : Result ℕ LineFault) (called : a ≡ line_answer log (take (end - at) (drop at xs))) where
     answered : entry_of k (get_or (take (end - at) (drop at xs)) 0 0) a ≡ next_of k (ended 10 (drop at xs)) log
@@ -57,16 +54,19 @@ letter_back b Begin h = grind (arith, nat_tests)
 letter_back b Finish h = grind (arith, nat_tests)
 letter_back b Pass h = grind (arith, nat_tests)
 
-by_letter : (k b n : ℕ) (o : Option Kind) (e : Entry) → letter b ≡ o → entry_for k n o ≡ Ok (Some e) → letter_of e.kind ≡ b
-by_letter k b n None e l h = cc
-by_letter k b n (Some kind) e l h =
-    let same : kind ≡ e.kind = cc in
-    ap letter_of (sym same) ∙ letter_back b kind l
+-- an accepted line was read, and so it has a kind
+was_read : (log : Log) (fs : List (List ℕ)) (r : Result Call LineFault) (n : ℕ) → answer_read log fs r ≡ Ok n → (c : Call) × (r ≡ Ok c)
+was_read log fs (Ok c) n h = (c, refl)
+was_read log fs (Err f) n h = cc
 
-by_answer : (k b : ℕ) (a : Result ℕ LineFault) (e : Entry) → entry_of k b a ≡ Ok (Some e) → letter_of e.kind ≡ b
-by_answer k b (Ok n) e h = by_letter k b n (letter b) e refl h
-by_answer k b (Err f) e h = cc
+was_named : (fs : List (List ℕ)) (o : Option Kind) (c : Call) → fields_read fs o ≡ Ok c → (kind : Kind) × (o ≡ Some kind)
+was_named fs None c h = cc
+was_named fs (Some kind) c h = (kind, refl)
 
 pub lettered : Lettered
-lettered k [] log e h = cc
-lettered k (l ∷ ls) log e h = by_answer k (get_or l 0 0) (line_answer log l) e h
+unfolding Lettered
+lettered k l ls log n h =
+    let read = was_read log (parted 9 l) (reading_of l) n h in
+    let named = was_named (parted 9 l) (kind_of (get_or (parted 9 l) 0 [])) read.0 read.1 in
+    let is : letter (get_or l 0 0) ≡ Some named.0 = line_letter l named.0 (ap (λ ps. kind_of (get_or ps 0 [])) (sym (parted_first 9 l)) ∙ named.1) in
+    (named.0, letter_back (get_or l 0 0) named.0 is, ap (entry_of k (get_or l 0 0)) h ∙ ap (entry_for k n) is)

@@ -1,5 +1,4 @@
 pub mod Faults
-pub mod Letters
 pub mod Reading
 pub mod Line
 pub mod Run

@@ -18,6 +18,13 @@ use Rattle.sheet.specs.declared.reading.Request.TheVariants as request
 abbrev pub letter : ℕ → Option Kind
 letter b = if b == 86 then Some Vehicle else if b == 66 then Some Begin else if b == 70 then Some Finish else if b == 84 then Some Pass else None
 
+-- the letter that names a kind
+abbrev pub letter_of : Kind → ℕ
+letter_of Vehicle = 86
+letter_of Begin = 66
+letter_of Finish = 70
+letter_of Pass = 84
+
 -- the kind that a field names: it is exactly one letter
 abbrev pub kind_of : List ℕ → Option Kind
 kind_of [] = None

@@ -1,5 +1,5 @@
 -- A sheet being run, one line at a time.
-use Rattle.std.specs.Prelude.{◌≡◌, ℕ, ◌+◌, if◌then◌else◌, List, [], ◌∷◌, length, drop, Some, None, Ok, Err, Option, Result, nat_lt, slice_index, slice_index_or}
+use Rattle.std.specs.Prelude.{◌≡◌, ℕ, ◌+◌, if◌then◌else◌, List, [], ◌∷◌, length, drop, Some, None, Ok, Err, Option, Result, nat_lt, slice_index}
 use Rattle.hall.specs.Log.{Log}
 use Rattle.text.specs.Split.{ended}
 use Rattle.sheet.specs.declared.fault.LineFault.{LineFault}
@@ -9,9 +9,8 @@ use Rattle.sheet.specs.declared.fault.SheetFault.TheVariants.{TooLong, AtLine}
 use Rattle.sheet.specs.declared.kind.Kind.{Kind}
 use Rattle.sheet.specs.declared.run.Entry.{Entry}
 use Rattle.sheet.specs.declared.run.Cursor.{Cursor}
-use Rattle.sheet.specs.Letters.{letter_of}
 use Rattle.sheet.specs.Line.{line_answer, line_log}
-use Rattle.sheet.specs.Reading.{letter}
+use Rattle.sheet.specs.Reading.{letter, letter_of}
 
 -- the lines of the text that are left
 abbrev pub left : List ℕ → Cursor → List (List ℕ)
@@ -54,6 +53,8 @@ abbrev pub number_next : ℕ → List (List ℕ) → ℕ
 number_next k [] = k
 number_next k (l ∷ ls) = k + 1
 
--- the letter of an entry is the first byte of its line
-abbrev pub Lettered : Type 0
-Lettered = (k : ℕ) (ls : List (List ℕ)) (log : Log) (e : Entry) → next_of k ls log ≡ Ok (Some e) → letter_of e.kind ≡ slice_index (slice_index_or ls 0 []) 0
+-- an accepted line gives an entry, and the letter of its kind is the first byte of the line
+unfoldable pub Lettered : Type 0
+Lettered =
+    (k : ℕ) (l : List ℕ) (ls : List (List ℕ)) (log : Log) (n : ℕ) → line_answer log l ≡ Ok n
+    → (kind : Kind) × (letter_of kind ≡ slice_index l 0) × (next_of k (l ∷ ls) log ≡ Ok (Some (record { line = k; kind = kind; answer = n })))

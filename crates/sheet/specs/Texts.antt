@@ -10,7 +10,7 @@ use Rattle.sheet.specs.declared.fault.SheetFault.{SheetFault}
 use Rattle.sheet.specs.declared.fault.SheetFault.TheVariants.{NoRoom}
 use Rattle.sheet.specs.declared.run.Entry.{Entry}
 use Rattle.sheet.specs.Faults.{layer_number, sheet_report_of}
-use Rattle.sheet.specs.Letters.{letter_of}
+use Rattle.sheet.specs.Reading.{letter_of}
 
 -- the numbers of a fault, in the order in which they are printed
 abbrev pub fault_cells : FaultReport → List Cell

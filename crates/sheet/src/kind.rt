@@ -1,8 +1,7 @@
 // The kind of a line, which its first field names.
 ghost use Rattle.std.specs.Prelude.{◌≡◌, ◌+◌, Some};
 ghost use Rattle.std.specs.Option.{ok_or};
-ghost use Rattle.sheet.specs.Reading.{letter, kind_of, count_fits};
-ghost use Rattle.sheet.specs.Letters.{letter_of};
+ghost use Rattle.sheet.specs.Reading.{letter, kind_of, count_fits, letter_of};
 ghost use Rattle.sheet.specs.declared.fault.LineFault.TheVariants as lines;
 
 use crate::fault::LineFault;

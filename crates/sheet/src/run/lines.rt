@@ -29,7 +29,7 @@ impl Cursor {
 
     // Runs the next line of `text` on the board, and answers what it did, or None where no line is left. A line that
     // is refused leaves the board and the cursor as they were.
-    #[tactic(auto, using(crate::proofs::Running::next_log, crate::proofs::Running::next_rest, crate::proofs::Running::lettered,))]
+    #[tactic(auto, using(crate::proofs::Running::next_log, crate::proofs::Running::next_rest, crate::proofs::Running::lettered))]
     pub fn next(&mut self, text: &[u8], board: &mut Board) -> Result<Option<Entry>, SheetFault>
         ensures answer { result ≡ next_of (number self.old) (left text.now self.old) (hall_log board.old) }
         ensures log { hall_log board.new ≡ log_next (left text.now self.old) (hall_log board.old) }
