@@ -43,7 +43,8 @@ impl Position {
     // The begin of the vehicle's next step, if it has one and the hours permit it.
     pub fn next_begin<H: Hours, G>(&self, by: &Setting<H, G>, v: usize) -> Option<u32>
         requires { v < length by.now.fleet.now }
-        ensures value { result ≡ begin_in (hours_of (H.Hours.permits by.now.hours.now)).earliest by.now.fleet.now self.now v }
+        ensures value { result
+            ≡ begin_in (hours_of (H.Hours.permits by.now.hours.now)).earliest by.now.fleet.now self.now v }
     {
         let standing = self.vehicles[v];
         let step = by.fleet[v].steps.as_slice().get(standing.begun)?;
@@ -104,7 +105,9 @@ impl Position {
     // The goal's score of all least finishes.
     pub fn bound<H, G: Goal>(&self, by: &Setting<H, G>) -> G::Score
         requires { Sane self.now }
-        ensures value { result ≡ scored (G.Goal.adding by.now.goal.now) (G.Goal.starting by.now.goal.now) (map (finish_in by.now.fleet.now self.now) (range_with_len 0 (length by.now.fleet.now))) }
+        ensures value { result
+            ≡ scored (G.Goal.adding by.now.goal.now) (G.Goal.starting by.now.goal.now)
+            (map (finish_in by.now.fleet.now self.now) (range_with_len 0 (length by.now.fleet.now))) }
     {
         let mut finishes: Short<u32, 24> = Short::empty(0);
         for (v, vehicle) in by.fleet.iter().enumerate() {
