@@ -69,7 +69,7 @@ impl Position {
         self.clock = begin;
     }
 
-    // The row of the vehicle's next step.
+    // The row of the vehicle's next step. A row has numbers of 32 bits, and the vehicle's is below 24, the step's below 8.
     pub fn row(&self, fleet: &[Vehicle], v: usize, begin: u32) -> Row
         requires { CanMove fleet.now self.now v begin }
         ensures value { result ≡ row_in fleet.now self.now v begin }
@@ -116,7 +116,7 @@ impl Position {
         score_of(by.goal, finishes.as_slice())
     }
 
-    // The steps that the vehicles have left.
+    // The steps that the vehicles have left. The loop is the recursion of `steps_left`, one vehicle a turn.
     pub fn steps_left(&self, fleet: &[Vehicle]) -> usize
         requires fleet { FleetOk fleet.now }
         requires begun { BegunWithin fleet.now self.now }
