@@ -116,7 +116,8 @@ impl Position {
         score_of(by.goal, finishes.as_slice())
     }
 
-    // The steps that the vehicles have left. The loop is the recursion of `steps_left`, one vehicle a turn.
+    // The steps that the vehicles have left. The loop is the recursion of `steps_left`, one vehicle a turn; a sum over pairs
+    // of vehicle and standing leaves open that no difference is below 0.
     pub fn steps_left(&self, fleet: &[Vehicle]) -> usize
         requires fleet { FleetOk fleet.now }
         requires begun { BegunWithin fleet.now self.now }
