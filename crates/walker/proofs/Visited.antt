@@ -26,7 +26,11 @@ same_stage : {S : Type 0} {ds ds' : List Due} {h h' : Option (Held S)} {n n' : �
 same_stage d h n = cc
 
 module _ {S : Type 0} (H : Hours) (G : Goal S) (J : List Vehicle) (w w' : Walker S) (some : 0 < length w.trail.frames.items) (ok : TrailOk J w.trail)
-    (made : w'.visits ≡ w.visits + 1) where
+    (made : w'.visits ≡ w.visits + 1) (x : S) (top : Frame) (is : top ≡ top_of w.trail) (scored : x ≡ bound_in G J top.at) where
+  -- the score that is tested is the top position's bound
+  bound : x ≡ bound_in G J (top_of w.trail).at
+  bound = scored ∙ ap (λ (f : Frame). bound_in G J f.at) is
+
   -- a visit of the stage is a visit of the top position
   at_top : visit_once H G J (stage_of H J w) ≡
       visit_top H G J (record { at = (top_of w.trail).at; rows = w.trail.path.items })
@@ -39,18 +43,18 @@ module _ {S : Type 0} (H : Hours) (G : Goal S) (J : List Vehicle) (w w' : Walker
       ∙ ap (λ (rs : List Row). visit_top H G J (record { at = (top_of w.trail).at; rows = rs })
       (below H.earliest J w.trail.frames.items w.trail.path.items d) (held_in w) w.visits) rows
 
-  pub step_dropped : Popped w.trail w'.trail → held_in w' ≡ held_in w → beats G.no_worse (score_held (held_in w)) (bound_in G J (top_of w.trail).at) ≡ true →
+  pub step_dropped : Popped w.trail w'.trail → held_in w' ≡ held_in w → beats G.no_worse (score_held (held_in w)) x ≡ true →
       stage_left H J w' ≡ visit_once H G J (stage_of H J w)
-  step_dropped p h b = same_stage (left_popped H.earliest J w.trail w'.trail p ok) h made ∙ sym (at_top ∙ simp b)
+  step_dropped p h b = same_stage (left_popped H.earliest J w.trail w'.trail p ok) h made ∙ sym (at_top ∙ simp (← bound, b))
 
-  pub step_recorded : Popped w.trail w'.trail → held_in w' ≡ Some (record { score = bound_in G J (top_of w.trail).at; rows = w.trail.path.items }) →
-      beats G.no_worse (score_held (held_in w)) (bound_in G J (top_of w.trail).at) ≡ false →
+  pub step_recorded : Popped w.trail w'.trail → held_in w' ≡ Some (record { score = x; rows = w.trail.path.items }) →
+      beats G.no_worse (score_held (held_in w)) x ≡ false →
       eqb (steps_left J (top_of w.trail).at (length J)) 0 ≡ true →
       stage_left H J w' ≡ visit_once H G J (stage_of H J w)
-  step_recorded p h b leaf = same_stage (left_popped H.earliest J w.trail w'.trail p ok) h made ∙ sym (at_top ∙ simp (b, leaf))
+  step_recorded p h b leaf = same_stage (left_popped H.earliest J w.trail w'.trail p ok) h made ∙ sym (at_top ∙ simp (← bound, b, leaf))
 
   pub step_opened : Opened w.trail w'.trail → held_in w' ≡ held_in w →
-      beats G.no_worse (score_held (held_in w)) (bound_in G J (top_of w.trail).at) ≡ false →
+      beats G.no_worse (score_held (held_in w)) x ≡ false →
       eqb (steps_left J (top_of w.trail).at (length J)) 0 ≡ false →
       stage_left H J w' ≡ visit_once H G J (stage_of H J w)
   step_opened p h b leaf =
@@ -69,7 +73,7 @@ module _ {S : Type 0} (H : Hours) (G : Goal S) (J : List Vehicle) (w w' : Walker
       ∙ ap (λ (x : Frame). children_from H.earliest J x.at (take d path) x.next ++ below H.earliest J (set fs d t) path d) here
       ∙ ap (λ (x : List Row). children_from H.earliest J t.at x 0 ++ below H.earliest J (set fs d t) path d) (take_all d path (omega (arith, ok.rows)))
       ∙ ap (λ (x : List Due). children_from H.earliest J t.at path 0 ++ x) rest in
-      same_stage due h made ∙ sym (at_top ∙ simp (b, leaf))
+      same_stage due h made ∙ sym (at_top ∙ simp (← bound, b, leaf))
 
 -- with nothing due nothing is visited
 pub visits_done : {S : Type 0} (H : Hours) (G : Goal S) (J : List Vehicle) (k : ℕ) (h : Option (Held S)) (n : ℕ) → visits_of H G J k (stage [] h n) ≡ stage [] h n

@@ -43,7 +43,8 @@ impl Position {
     // The begin of the vehicle's next step, if it has one and the hours permit it.
     pub fn next_begin<H: Hours, G>(&self, by: &Setting<H, G>, v: usize) -> Option<u32>
         requires { v < length by.now.fleet.now }
-        ensures value { result ≡ begin_in (hours_of (H.Hours.permits by.now.hours.now)).earliest by.now.fleet.now self.now v }
+        ensures value { result
+            ≡ begin_in (hours_of (H.Hours.permits by.now.hours.now)).earliest by.now.fleet.now self.now v }
     {
         let standing = self.vehicles[v];
         let step = by.fleet[v].steps.as_slice().get(standing.begun)?;
@@ -68,7 +69,7 @@ impl Position {
         self.clock = begin;
     }
 
-    // The row of the vehicle's next step.
+    // The row of the vehicle's next step. A row has numbers of 32 bits, and the vehicle's is below 24, the step's below 8.
     pub fn row(&self, fleet: &[Vehicle], v: usize, begin: u32) -> Row
         requires { CanMove fleet.now self.now v begin }
         ensures value { result ≡ row_in fleet.now self.now v begin }
@@ -104,7 +105,9 @@ impl Position {
     // The goal's score of all least finishes.
     pub fn bound<H, G: Goal>(&self, by: &Setting<H, G>) -> G::Score
         requires { Sane self.now }
-        ensures value { result ≡ scored (G.Goal.adding by.now.goal.now) (G.Goal.starting by.now.goal.now) (map (finish_in by.now.fleet.now self.now) (range_with_len 0 (length by.now.fleet.now))) }
+        ensures value { result
+            ≡ scored (G.Goal.adding by.now.goal.now) (G.Goal.starting by.now.goal.now)
+            (map (finish_in by.now.fleet.now self.now) (range_with_len 0 (length by.now.fleet.now))) }
     {
         let mut finishes: Short<u32, 24> = Short::empty(0);
         for (v, vehicle) in by.fleet.iter().enumerate() {
@@ -113,7 +116,8 @@ impl Position {
         score_of(by.goal, finishes.as_slice())
     }
 
-    // The steps that the vehicles have left.
+    // The steps that the vehicles have left. The loop is the recursion of `steps_left`, one vehicle a turn; a sum over pairs
+    // of vehicle and standing leaves open that no difference is below 0.
     pub fn steps_left(&self, fleet: &[Vehicle]) -> usize
         requires fleet { FleetOk fleet.now }
         requires begun { BegunWithin fleet.now self.now }

@@ -22,7 +22,7 @@ fn end_of(step: StepRecord, minute: u32) -> u32
     match step.progress {
         Progress::Waiting => 0,
         Progress::Running { begin } => minute.max(begin + step.length),
-        Progress::Done { begin: _, end } => end,
+        Progress::Done { end, .. } => end,
     }
 }
 
@@ -67,6 +67,7 @@ pub fn root_of(board: &Board) -> Position
         stations: [0; 16],
         clock: minute,
     };
+    // `v` is below 24, and the board takes a vehicle's number as `u32`
     for (v, vehicle) in fleet.iter().enumerate() {
         stand(&mut position, vehicle, v, board.begun(v as u32), minute);
     }

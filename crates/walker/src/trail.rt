@@ -37,7 +37,8 @@ pub struct Trail {
 impl Frame {
     // The first move of a vehicle from `next` on. That `find_map` over the range finds it, the check does not prove.
     fn next_move<H: Hours, G>(&self, by: &Setting<H, G>) -> Option<Move>
-        ensures found { Found (hours_of (H.Hours.permits by.now.hours.now)).earliest by.now.fleet.now self.now result }
+        ensures found { Found (hours_of (H.Hours.permits by.now.hours.now)).earliest by.now.fleet.now
+            self.now result }
     {
         for v in self.next..by.fleet.len() {
             if let Some(begin) = self.at.next_begin(by, v) {
@@ -103,7 +104,8 @@ impl Trail {
         requires { TrailOk by.now.fleet.now self.old }
         ensures ok { TrailOk by.now.fleet.now self.new }
         ensures steps { self.new.steps ≡ self.old.steps }
-        ensures due { due_of (hours_of (H.Hours.permits by.now.hours.now)).earliest by.now.fleet.now self.new ≡ due_left (hours_of (H.Hours.permits by.now.hours.now)).earliest by.now.fleet.now self.old }
+        ensures due { due_of (hours_of (H.Hours.permits by.now.hours.now)).earliest by.now.fleet.now self.new
+            ≡ due_left (hours_of (H.Hours.permits by.now.hours.now)).earliest by.now.fleet.now self.old }
     {
         while let Some(top) = self.frames.as_slice().last() {
             if let Some(m) = top.next_move(by) {

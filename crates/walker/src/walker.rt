@@ -47,7 +47,10 @@ impl<S: Copy> Walker<S> {
         ensures ok { WalkerOk by.now.fleet.now self.new }
         ensures steps { self.new.trail.steps ≡ self.old.trail.steps }
         ensures count { self.new.visits ≡ self.old.visits + 1 }
-        ensures step { stage_left (hours_of (H.Hours.permits by.now.hours.now)) by.now.fleet.now self.new ≡ visit_once (hours_of (H.Hours.permits by.now.hours.now)) (goal_of (G.Goal.starting by.now.goal.now) (G.Goal.adding by.now.goal.now) (G.Goal.no_worse by.now.goal.now)) by.now.fleet.now (stage_of (hours_of (H.Hours.permits by.now.hours.now)) by.now.fleet.now self.old) }
+        ensures step { stage_left (hours_of (H.Hours.permits by.now.hours.now)) by.now.fleet.now self.new
+            ≡ visit_once (hours_of (H.Hours.permits by.now.hours.now))
+            (goal_of (G.Goal.starting by.now.goal.now) (G.Goal.adding by.now.goal.now) (G.Goal.no_worse by.now.goal.now))
+            by.now.fleet.now (stage_of (hours_of (H.Hours.permits by.now.hours.now)) by.now.fleet.now self.old) }
     {
         let bound = self.trail.top().at.bound(by);
         self.visits += 1;
@@ -74,7 +77,10 @@ impl<S: Copy> Walker<S> {
         ensures ok { WalkerOk by.now.fleet.now self.new }
         ensures steps { self.new.trail.steps ≡ self.old.trail.steps }
         ensures count { self.new.visits ≡ self.old.visits + 1 }
-        ensures step { stage_of (hours_of (H.Hours.permits by.now.hours.now)) by.now.fleet.now self.new ≡ visit_once (hours_of (H.Hours.permits by.now.hours.now)) (goal_of (G.Goal.starting by.now.goal.now) (G.Goal.adding by.now.goal.now) (G.Goal.no_worse by.now.goal.now)) by.now.fleet.now (stage_of (hours_of (H.Hours.permits by.now.hours.now)) by.now.fleet.now self.old) }
+        ensures step { stage_of (hours_of (H.Hours.permits by.now.hours.now)) by.now.fleet.now self.new
+            ≡ visit_once (hours_of (H.Hours.permits by.now.hours.now))
+            (goal_of (G.Goal.starting by.now.goal.now) (G.Goal.adding by.now.goal.now) (G.Goal.no_worse by.now.goal.now))
+            by.now.fleet.now (stage_of (hours_of (H.Hours.permits by.now.hours.now)) by.now.fleet.now self.old) }
     {
         self.decide(by);
         self.trail.settle(by);
@@ -87,7 +93,10 @@ impl<S: Copy> Walker<S> {
         ensures ok { WalkerOk by.now.fleet.now self.new }
         ensures steps { self.new.trail.steps ≡ self.old.trail.steps }
         ensures count { self.new.visits ≤ self.old.visits + budget }
-        ensures walk { stage_of (hours_of (H.Hours.permits by.now.hours.now)) by.now.fleet.now self.new ≡ visits_of (hours_of (H.Hours.permits by.now.hours.now)) (goal_of (G.Goal.starting by.now.goal.now) (G.Goal.adding by.now.goal.now) (G.Goal.no_worse by.now.goal.now)) by.now.fleet.now budget (stage_of (hours_of (H.Hours.permits by.now.hours.now)) by.now.fleet.now self.old) }
+        ensures walk { stage_of (hours_of (H.Hours.permits by.now.hours.now)) by.now.fleet.now self.new
+            ≡ visits_of (hours_of (H.Hours.permits by.now.hours.now))
+            (goal_of (G.Goal.starting by.now.goal.now) (G.Goal.adding by.now.goal.now) (G.Goal.no_worse by.now.goal.now))
+            by.now.fleet.now budget (stage_of (hours_of (H.Hours.permits by.now.hours.now)) by.now.fleet.now self.old) }
     {
         for _ in 0..budget {
             if self.trail.frames.as_slice().is_empty() {
