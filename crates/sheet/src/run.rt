@@ -13,9 +13,10 @@ pub struct Entry {
     pub answer: u32,
 }
 
-// How far the run of a sheet has come: where the next line begins, and how many lines are behind it.
+// The run of a sheet: its text, where the next line begins, and how many lines are behind it.
 #[derive(Clone, Copy)]
-pub struct Cursor {
+pub struct Cursor<'a> {
+    text: &'a [u8],
     at: usize,
     behind: usize,
     ghost counted: { behind ≤ at },
