@@ -11,7 +11,7 @@ use std::test::Fail;
 fn run(text: &[u8]) -> Result<(), SheetFault> {
     let mut cursor = Cursor::new(text)?;
     let mut board = Board::new();
-    while let Some(_) = cursor.next(&mut board)? {}
+    while let Some(_) = cursor.next(text, &mut board)? {}
     Ok(())
 }
 

@@ -53,7 +53,7 @@ fn run(shown: &mut Vec<u8>, text: &[u8]) -> Result<(), Stop>
 {
     let mut cursor = Cursor::new(text)?;
     let mut board = Board::new();
-    while let Some(entry) = cursor.next(&mut board)? {
+    while let Some(entry) = cursor.next(text, &mut board)? {
         add(shown, &entry)?;
     }
     Ok(())

@@ -13,16 +13,16 @@ use Rattle.sheet.specs.Line.{line_answer, line_log}
 use Rattle.sheet.specs.Reading.{letter, letter_of}
 
 -- the lines of the text that are left
-abbrev pub left : Cursor → List (List ℕ)
-left cursor = ended 10 (drop cursor.at cursor.text.now)
+abbrev pub left : List ℕ → Cursor → List (List ℕ)
+left bs cursor = ended 10 (drop cursor.at bs)
 
 -- the number of the next line
 abbrev pub number : Cursor → ℕ
 number cursor = cursor.behind + 1
 
 -- the lines that are left, and the number of the first of them
-abbrev pub standing : Cursor → List (List ℕ) × ℕ
-standing cursor = (left cursor, number cursor)
+abbrev pub standing : List ℕ → Cursor → List (List ℕ) × ℕ
+standing bs cursor = (left bs cursor, number cursor)
 
 -- where a run of these bytes begins: the text of a sheet has at most 60,000 bytes, and its first line is line 1
 abbrev pub opened_of : List ℕ → Result (List (List ℕ) × ℕ) SheetFault

@@ -13,10 +13,9 @@ pub struct Entry {
     pub answer: u32,
 }
 
-// The run of a sheet: its text, where the next line begins, and how many lines are behind it.
+// How far the run of a sheet has come: where the next line begins, and how many lines are behind it.
 #[derive(Clone, Copy)]
-pub struct Cursor<'a> {
-    text: &'a [u8],
+pub struct Cursor {
     at: usize,
     behind: usize,
     ghost counted: { behind ≤ at },

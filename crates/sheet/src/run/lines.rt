@@ -16,33 +16,28 @@ const NEWLINE: u8 = 10;
 // The most bytes that a sheet has.
 const MOST_BYTES: usize = 60_000;
 
-impl<'a> Cursor<'a> {
+impl Cursor {
     // A cursor at the first line of `text`.
-    pub fn new(text: &'a [u8]) -> Result<Cursor<'a>, SheetFault>
-        ensures { on_ok standing result ≡ opened_of text.now }
+    pub fn new(text: &[u8]) -> Result<Cursor, SheetFault>
+        ensures { on_ok (standing text.now) result ≡ opened_of text.now }
     {
         if text.len() > MOST_BYTES {
             return Err(SheetFault::TooLong);
         }
-        Ok(Cursor {
-            text,
-            at: 0,
-            behind: 0,
-        })
+        Ok(Cursor { at: 0, behind: 0 })
     }
 
-    // Runs the next line on the board, and answers what it did, or None where no line is left. A line that
+    // Runs the next line of `text` on the board, and answers what it did, or None where no line is left. A line that
     // is refused leaves the board and the cursor as they were.
     #[tactic(auto, using(crate::proofs::Running::next_log, crate::proofs::Running::next_rest, crate::proofs::Running::lettered))]
-    pub fn next(&mut self, board: &mut Board) -> Result<Option<Entry>, SheetFault>
-        ensures answer { result ≡ next_of (number self.old) (left self.old) (hall_log board.old) }
-        ensures log { hall_log board.new ≡ log_next (left self.old) (hall_log board.old) }
+    pub fn next(&mut self, text: &[u8], board: &mut Board) -> Result<Option<Entry>, SheetFault>
+        ensures answer { result ≡ next_of (number self.old) (left text.now self.old) (hall_log board.old) }
+        ensures log { hall_log board.new ≡ log_next (left text.now self.old) (hall_log board.old) }
         ensures unchanged { OnErr result ((board.new ≡ board.old) × (self.new ≡ self.old)) }
-        ensures rest { OnOk result (left self.new ≡ drop 1 (left self.old)) }
-        ensures counted { OnOk result (number self.new ≡ number_next (number self.old) (left self.old)) }
+        ensures rest { OnOk result (left text.now self.new ≡ drop 1 (left text.now self.old)) }
+        ensures counted { OnOk result (number self.new ≡ number_next (number self.old) (left text.now self.old)) }
         ensures lettered { Lettered }
     {
-        let text = self.text;
         let at = self.at;
         if at >= text.len() {
             return Ok(None);

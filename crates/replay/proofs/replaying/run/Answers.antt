@@ -6,6 +6,7 @@ use Rattle.replay.proofs.replaying.run.Goals as goal
 
 pub loop-entry-preserved : goal.loop-entry-preserved
 loop-entry-preserved c =
+    let bs = c.args.text.now in
     let next = c.in_ok-entry.ensures in
-    shows_more (vec_items c.loop-entry.shown) _ _ (number c.loop-entry.cursor) _ (left c.loop-entry.cursor) _ (hall_log c.loop-entry.board) _
+    shows_more (vec_items c.loop-entry.shown) _ _ (number c.loop-entry.cursor) _ (left bs c.loop-entry.cursor) _ (hall_log c.loop-entry.board) _
     c.in-Some.entry (ap Ok (sym c.in-Some.is) ∙ next.answer) c.in_ok-add.ensures next.counted next.rest next.log c.loop-entry.invariant

@@ -7,8 +7,8 @@ use Rattle.replay.proofs.replaying.run.Given as goal
 -- what is shown, with the text of the lines that are left, is the whole text
 abbrev pub invariant-loop-entry : goal.invariant-loop-entry
 invariant-loop-entry l =
-    vec_items l.shown ++ lines_text (number l.cursor) (left l.cursor) (hall_log l.board)
+    vec_items l.shown ++ lines_text (number l.cursor) (left l.text l.cursor) (hall_log l.board)
     ≡ vec_items l.initial.shown ++ replay_text l.text
 
 abbrev pub decreases-loop-entry : goal.decreases-loop-entry
-decreases-loop-entry l = length (left l.cursor)
+decreases-loop-entry l = length (left l.text l.cursor)
