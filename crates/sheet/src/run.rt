@@ -13,7 +13,8 @@ pub struct Entry {
     pub answer: u32,
 }
 
-// How far the run of a sheet has come: where the next line begins, and how many lines are behind it.
+// How far the run of a sheet has come: where the next line begins, and how many lines are behind it. The text is passed to
+// each call: a cursor that held it by reference would ask its caller to leave it as it is.
 #[derive(Clone, Copy)]
 pub struct Cursor {
     at: usize,

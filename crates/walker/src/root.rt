@@ -13,7 +13,8 @@ use hall::board::Board;
 use hall::step::{Progress, StepRecord};
 use hall::vehicle::Vehicle;
 
-// A begun step's end: recorded, or the later of now and begin plus length.
+// A begun step's end: recorded, or the later of now and begin plus length. It is asked of begun steps alone; of others it is 0,
+// as in `end_by`.
 fn end_of(step: StepRecord, minute: u32) -> u32
     requires begin { begin_of step.progress ≤ 1000000 }
     requires length { step.length ≤ 1440 }
@@ -26,7 +27,8 @@ fn end_of(step: StepRecord, minute: u32) -> u32
     }
 }
 
-// The minute up to which a step takes its station, 0 if it does not run.
+// The minute up to which a step takes its station; 0 if it does not run, since a station that nothing takes is free from
+// minute 0.
 fn runs_until(step: StepRecord, minute: u32) -> u32
     requires begin { begin_of step.progress ≤ 1000000 }
     requires length { step.length ≤ 1440 }

@@ -58,7 +58,7 @@ impl Board {
         self.minute
     }
 
-    // How many steps of the vehicle are begun; 0 where there is no such vehicle.
+    // How many steps of the vehicle are begun; 0 where there is no such vehicle, of which none is, so it is no `Option`.
     pub fn begun(&self, vehicle: u32) -> usize
         ensures value { result ≡ next_step (vehicle_at (hall_log self.now) vehicle) }
     {
