@@ -28,7 +28,7 @@ impl TryFrom<&[u8]> for Kind {
         let [byte] = field else {
             return Err(LineFault::KindUnknown);
         };
-        match *byte as char {
+        match char::from(*byte) {
             'V' => Ok(Kind::Vehicle),
             'B' => Ok(Kind::Begin),
             'F' => Ok(Kind::Finish),
