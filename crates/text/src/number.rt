@@ -6,7 +6,7 @@ ghost use Rattle.text.specs.Number.{digit_of, number_shape, number_of, minutes_o
 const MAX_DIGITS: usize = 7;
 
 // Why a field is no number.
-#[derive(Clone, Copy, Debug, PartialEq)]
+#[derive(Clone, Copy, Debug, PartialEq, Eq)]
 pub enum NumberFault {
     Malformed,
 }
