@@ -31,7 +31,7 @@ impl Progress {
     }
 }
 
-// A step of a vehicle in the hall.
+// A step of a vehicle in the hall. The rules speak of a record's station and length, so it holds no booked step.
 #[derive(Clone, Copy, Debug, PartialEq, Eq)]
 pub struct StepRecord {
     pub station: u32,
