@@ -61,14 +61,6 @@ length-parted b xs = length-slice_split (λ x. eqb x b) xs ∙ add-one (tally b 
 pub parted_some : (b : ℕ) (xs : List ℕ) → 0 < length (parted b xs)
 parted_some b xs = omega (arith, length-parted b xs)
 
--- where there is a b, the bytes before it are not all
-pub before_less : (b : ℕ) (xs : List ℕ) → 1 ≤ tally b xs → length (before b xs) < length xs
-before_less b xs h =
-    ⊎_elim (λ l. l) (λ l.
-    let e : length (before b xs) ≡ length xs = omega (arith, before_short b xs) in
-    absurd (omega (arith, ap length (parted_last b xs e), length-parted b xs)))
-    (cases_lt (length (before b xs)) (length xs))
-
 pub before_cons : (b x : ℕ) (xs : List ℕ) → before b (x ∷ xs) ≡ cond (eqb x b) [] (x ∷ before b xs)
 before_cons b x xs =
     take_while-cons (λ y. not (eqb y b)) x xs ∙ elim (eqb x b) as (λ t. cond (not t) (x ∷ before b xs) [] ≡ cond t [] (x ∷ before b xs)) [ true ↦ refl | false ↦ refl ]
@@ -97,14 +89,6 @@ module _ (b : ℕ) (xs : List ℕ) (at end : ℕ) where
   -- its bytes are a part of the whole
   pub piece_bytes : end ≡ at + length (before b (drop at xs)) → take (end - at) (drop at xs) ≡ before b (drop at xs)
   piece_bytes e = ap (λ n. take n (drop at xs)) (let s : end - at ≡ length (before b (drop at xs)) = omega arith in s) ∙ before_take b (drop at xs)
-
-  -- the last field
-  pub piece_end : at ≤ length xs → end ≡ at + length (before b (drop at xs)) → length xs ≤ end → parted b (drop at xs) ≡ drop at xs ∷ []
-  piece_end h e l = parted_last b (drop at xs) (omega (arith, length-drop at xs, before_short b (drop at xs)))
-
-  -- a field with others behind it
-  pub piece_more : end ≡ at + length (before b (drop at xs)) → end < length xs → parted b (drop at xs) ≡ before b (drop at xs) ∷ parted b (drop (end + 1) xs)
-  piece_more e l = parted_more b (drop at xs) (omega (arith, length-drop at xs)) ∙ ap (λ p. before b (drop at xs) ∷ parted b p) (behind e)
 
   -- a line, and the lines behind it
   pub line_at : at < length xs → end ≡ at + length (before b (drop at xs)) → ended b (drop at xs) ≡ take (end - at) (drop at xs) ∷ ended b (drop (end + 1) xs)
