@@ -4,7 +4,7 @@ use goals::{Goal, score_of};
 use std::test::Fail;
 use walk::held::Held;
 
-// The number and the index by which due minutes are refused, if they are.
+// The number and the index by which due minutes are refused, if they are: their fault is a type of its own.
 fn refusal(due: &[u32]) -> Option<(u32, usize)> {
     let made = GreatestLateness::new(due);
     made.err().map(|fault| (fault.refusal(), fault.index()))

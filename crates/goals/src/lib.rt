@@ -9,7 +9,7 @@ pub mod fault;
 pub mod lateness;
 pub mod latest;
 
-// The most vehicles that a hall has.
+// The most vehicles that a hall has. Goals know nothing of a board, so this limit stands here too.
 pub const MOST_VEHICLES: usize = 24;
 
 // A goal scores the finishes of a plan, which are added in the order of the vehicles' numbers. It is given at most 24

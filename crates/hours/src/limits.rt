@@ -2,7 +2,7 @@
 ghost use Rattle.std.specs.Prelude.{◌≡◌, true};
 ghost use Rattle.hours.specs.Limits.{Within, within};
 
-// Stations are numbered from 0 up to this one.
+// Stations are numbered from 0 up to this one. Hours know nothing of a board, so this limit and the next stand here too.
 pub const LAST_STATION: u32 = 15;
 
 // The longest step, in minutes.

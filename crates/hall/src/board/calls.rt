@@ -124,7 +124,8 @@ impl Board {
         Ok(running)
     }
 
-    // Ends the vehicle's running step now, and answers the step's number.
+    // Ends the vehicle's running step now, and answers the step's number. It goes as `begin`, by another rule and another write:
+    // a function of both would take either as a closure.
     pub fn finish(&mut self, vehicle: u32) -> Result<u32, BoardFault>
         ensures called { Called self.old (finish vehicle) result self.new }
         ensures step { Exactly (Finishes (hall_log self.old) vehicle) result (config_of (hall_log self.new)) }
