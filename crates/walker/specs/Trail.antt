@@ -3,7 +3,7 @@ use Rattle.std.specs.Prelude.{◌≡◌, ℕ, zero, suc, ◌+◌, ◌-◌, ◌<�
 use Rattle.hall.specs.declared.vehicle.Vehicle.{Vehicle}
 use Rattle.plans.specs.declared.row.Row.{Row}
 use Rattle.walker.specs.declared.position.Position.{Position}
-use Rattle.walker.specs.declared.trail.Move.{Move}
+use Rattle.walker.specs.declared.position.Move.{Move}
 use Rattle.walker.specs.declared.trail.Frame.{Frame}
 use Rattle.walker.specs.declared.trail.Trail.{Trail}
 use Rattle.walker.specs.Moves.{Query, advanced, row_in, begin_in, CanMove, Sane, steps_left}

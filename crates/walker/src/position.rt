@@ -30,6 +30,13 @@ pub struct Position {
     pub clock: u32,
 }
 
+// A vehicle's next step and its begin.
+#[derive(Clone, Copy)]
+pub struct Move {
+    pub vehicle: usize,
+    pub begin: u32,
+}
+
 // The lengths of the steps together.
 fn total_length(steps: &[StepRecord]) -> u32
     requires { total_length steps.now ≤ 11520 }
@@ -54,34 +61,34 @@ impl Position {
     }
 
     // Begins the vehicle's next step.
-    pub fn advance(&mut self, fleet: &[Vehicle], v: usize, begin: u32)
-        requires { CanMove fleet.now self.old v begin }
-        ensures value { self.new ≡ advanced fleet.now self.old v begin }
+    pub fn advance(&mut self, fleet: &[Vehicle], m: Move)
+        requires { CanMove fleet.now self.old m.vehicle m.begin }
+        ensures value { self.new ≡ advanced fleet.now self.old m.vehicle m.begin }
     {
-        let k = self.vehicles[v].begun;
-        let step = fleet[v].steps.as_slice()[k];
-        let end = begin + step.length;
-        self.vehicles[v] = Standing {
+        let k = self.vehicles[m.vehicle].begun;
+        let step = fleet[m.vehicle].steps.as_slice()[k];
+        let end = m.begin + step.length;
+        self.vehicles[m.vehicle] = Standing {
             begun: k + 1,
             free: end,
         };
         self.stations[step.station as usize] = end;
-        self.clock = begin;
+        self.clock = m.begin;
     }
 
     // The row of the vehicle's next step. A row has numbers of 32 bits, and the vehicle's is below 24, the step's below 8.
-    pub fn row(&self, fleet: &[Vehicle], v: usize, begin: u32) -> Row
-        requires { CanMove fleet.now self.now v begin }
-        ensures value { result ≡ row_in fleet.now self.now v begin }
+    pub fn row(&self, fleet: &[Vehicle], m: Move) -> Row
+        requires { CanMove fleet.now self.now m.vehicle m.begin }
+        ensures value { result ≡ row_in fleet.now self.now m.vehicle m.begin }
     {
-        let k = self.vehicles[v].begun;
-        let step = fleet[v].steps.as_slice()[k];
+        let k = self.vehicles[m.vehicle].begun;
+        let step = fleet[m.vehicle].steps.as_slice()[k];
         Row {
-            vehicle: v as u32,
+            vehicle: m.vehicle as u32,
             step: k as u32,
             station: step.station,
-            begin,
-            end: begin + step.length,
+            begin: m.begin,
+            end: m.begin + step.length,
         }
     }
 

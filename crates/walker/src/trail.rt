@@ -4,19 +4,12 @@ ghost use Rattle.plans.specs.Meanings.{hours_of};
 ghost use Rattle.walker.specs.Moves.{CanMove};
 ghost use Rattle.walker.specs.Trail.{Found, TrailOk, Pushed, Opened, Popped, due_left, due_of, top_of};
 
-use crate::position::Position;
+use crate::position::{Move, Position};
 use crate::setting::Setting;
 use hall::vehicle::Vehicle;
 use hours::Hours;
 use plans::row::Row;
 use short::Short;
-
-// A vehicle's next step and its begin.
-#[derive(Clone, Copy)]
-pub struct Move {
-    pub vehicle: usize,
-    pub begin: u32,
-}
 
 // A position and the next vehicle to move from it.
 #[derive(Clone, Copy)]
@@ -76,8 +69,8 @@ impl Trail {
                 next: m.vehicle + 1,
             },
         );
-        self.path.push(at.row(fleet, m.vehicle, m.begin));
-        at.advance(fleet, m.vehicle, m.begin);
+        self.path.push(at.row(fleet, m));
+        at.advance(fleet, m);
         self.frames.push(Frame { at, next: 0 });
     }
 
