@@ -70,11 +70,15 @@ pub record Pushed (J : List Vehicle) (m : Move) (s t : Trail) : Type 0 where
   pub path : t.path.items ≡ s.path.items ++ row_in J (top_of s).at m.vehicle m.begin ∷ []
   pub steps : t.steps ≡ s.steps
 
--- t is the trail s with the children of its top frame due
-pub record Opened (s t : Trail) : Type 0 where
-  pub frames : t.frames.items ≡ slice_set s.frames.items (length s.frames.items - 1) (record { at = (top_of s).at; next = 0 })
+-- t is the trail s with v as the next vehicle to move from its top frame
+pub record Turned (v : ℕ) (s t : Trail) : Type 0 where
+  pub frames : t.frames.items ≡ slice_set s.frames.items (length s.frames.items - 1) (record { at = (top_of s).at; next = v })
   pub path : t.path.items ≡ s.path.items
   pub steps : t.steps ≡ s.steps
+
+-- t is the trail s with the children of its top frame due
+abbrev pub Opened : Trail → Trail → Type 0
+Opened s t = Turned 0 s t
 
 -- t is the trail s without its top frame and the row that led to it
 pub record Popped (s t : Trail) : Type 0 where

@@ -2,7 +2,7 @@
 ghost use Rattle.std.specs.Prelude.{◌≡◌, ◌<◌, length};
 ghost use Rattle.plans.specs.Meanings.{hours_of};
 ghost use Rattle.walker.specs.Moves.{CanMove};
-ghost use Rattle.walker.specs.Trail.{Found, TrailOk, Pushed, Opened, Popped, due_left, due_of, top_of};
+ghost use Rattle.walker.specs.Trail.{Found, TrailOk, Turned, Pushed, Opened, Popped, due_left, due_of, top_of};
 
 use crate::position::{Move, Position};
 use crate::setting::Setting;
@@ -52,6 +52,16 @@ impl Trail {
         frames[frames.len() - 1]
     }
 
+    // Makes `next` the next vehicle to move from the top frame.
+    fn turn_to(&mut self, next: usize)
+        requires { 0 < length self.old.frames.items }
+        ensures value { Turned next self.old self.new }
+    {
+        let at = self.top().at;
+        let d = self.frames.as_slice().len() - 1;
+        self.frames.set(d, Frame { at, next });
+    }
+
     // Makes the move from the top frame.
     fn push(&mut self, fleet: &[Vehicle], m: Move)
         requires some { 0 < length self.old.frames.items }
@@ -61,14 +71,7 @@ impl Trail {
         ensures value { Pushed fleet.now m self.old self.new }
     {
         let mut at = self.top().at;
-        let d = self.frames.as_slice().len() - 1;
-        self.frames.set(
-            d,
-            Frame {
-                at,
-                next: m.vehicle + 1,
-            },
-        );
+        self.turn_to(m.vehicle + 1);
         self.path.push(at.row(fleet, m));
         at.advance(fleet, m);
         self.frames.push(Frame { at, next: 0 });
@@ -79,9 +82,7 @@ impl Trail {
         requires { 0 < length self.old.frames.items }
         ensures value { Opened self.old self.new }
     {
-        let at = self.top().at;
-        let d = self.frames.as_slice().len() - 1;
-        self.frames.set(d, Frame { at, next: 0 });
+        self.turn_to(0);
     }
 
     // Lets the top frame go, with the row that led to it.
