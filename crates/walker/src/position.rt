@@ -30,7 +30,8 @@ pub struct Position {
     pub clock: u32,
 }
 
-// A vehicle's next step and its begin.
+// A vehicle's next step and its begin. That the move can be made (`CanMove`) is a fact of the move, the position and the
+// vehicles together, so it is asked where the three meet.
 #[derive(Clone, Copy)]
 pub struct Move {
     pub vehicle: usize,

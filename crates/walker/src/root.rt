@@ -13,8 +13,8 @@ use hall::board::Board;
 use hall::step::{Progress, StepRecord};
 use hall::vehicle::Vehicle;
 
-// A begun step's end: recorded, or the later of now and begin plus length. It is asked of begun steps alone; of others it is 0,
-// as in `end_by`.
+// A begun step's end: recorded, or the later of now and begin plus length. It is asked of begun steps alone; of others it is
+// 0, as in `end_by`.
 fn end_of(step: StepRecord, minute: u32) -> u32
     requires begin { begin_of step.progress ≤ 1000000 }
     requires length { step.length ≤ 1440 }

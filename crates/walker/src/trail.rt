@@ -42,6 +42,7 @@ impl Frame {
     }
 }
 
+// That a top frame is there is asked by each that needs one: the caller has just seen it, and an `Option` would hide that.
 impl Trail {
     // The top frame.
     pub fn top(&self) -> Frame
