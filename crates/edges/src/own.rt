@@ -7,7 +7,6 @@ ghost use Rattle.goals.specs.Scoring.{monotone_by_step};
 use goals::{Goal, score_of};
 use hours::Hours;
 use hours::closure::Closure;
-use hours::fault::HoursFault;
 use std::test::Fail;
 use walk::held::Held;
 

@@ -1,4 +1,3 @@
-use goals::fault::GoalFault;
 use goals::lateness::GreatestLateness;
 use goals::latest::LatestFinish;
 use goals::{Goal, score_of};

@@ -51,7 +51,7 @@ pub fn score_of<G: Goal>(goal: &G, finishes: &[u32]) -> G::Score
     ensures latest { LatestFinishIsGreatest }
     ensures lateness { (due : List ℕ) → LatenessIsGreatest due }
 {
-    // the loop is the recursion of `scored`, one finish a turn; a `fold` over pairs would need a lemma that the two agree
+    // the loop is the recursion of `scored`, one finish a turn; of a `fold` over pairs the check leaves `value` open
     let mut score = goal.start();
     for (vehicle, finish) in finishes.iter().enumerate() {
         score = goal.add(score, vehicle, *finish);

@@ -7,12 +7,15 @@ use crate::vehicle::Vehicle;
 
 pub mod calls;
 
+// How many vehicles the table takes.
+pub(crate) const MOST_VEHICLES: usize = 24;
+
 // The first `count` records of the table are the vehicles in the hall, and `minute` is now. The table is a plain array of
 // vehicle records, by the project's rules, and begin and finish lend one record of it in place. What every board keeps,
 // whatever was called on it, is stated by the ghost fields: `few` of the table, `lasting` in the words of the hall.
 #[derive(Clone, Copy)]
 pub struct Board {
-    vehicles: [Vehicle; 24],
+    vehicles: [Vehicle; MOST_VEHICLES],
     count: usize,
     minute: u32,
     ghost few: { count ≤ 24 },

@@ -4,7 +4,7 @@ ghost use Rattle.hall.specs.Faults.{refusal_of, field_of};
 
 // Each case has a refusal number and names the field of the call that it is about. Where a booked step is at fault, the
 // case holds the step's number.
-#[derive(Clone, Copy, Debug, PartialEq)]
+#[derive(Clone, Copy, Debug, PartialEq, Eq)]
 pub enum BoardFault {
     VehicleUnknown,
     StepRuns,

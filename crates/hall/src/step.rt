@@ -4,14 +4,14 @@ ghost use Rattle.hall.specs.Log.{begin_of, least_time};
 ghost use Rattle.hall.specs.Rules.{booked};
 
 // A booked step: a station and a length in minutes.
-#[derive(Clone, Copy, Debug, PartialEq)]
+#[derive(Clone, Copy, Debug, PartialEq, Eq)]
 pub struct Step {
     pub station: u32,
     pub length: u32,
 }
 
 // How far a step has come, with the minutes that are recorded of it.
-#[derive(Clone, Copy, Debug, PartialEq)]
+#[derive(Clone, Copy, Debug, PartialEq, Eq)]
 pub enum Progress {
     Waiting,
     Running { begin: u32 },
@@ -31,8 +31,8 @@ impl Progress {
     }
 }
 
-// A step of a vehicle in the hall.
-#[derive(Clone, Copy, Debug, PartialEq)]
+// A step of a vehicle in the hall. The rules speak of a record's station and length, so it holds no booked step.
+#[derive(Clone, Copy, Debug, PartialEq, Eq)]
 pub struct StepRecord {
     pub station: u32,
     pub length: u32,

@@ -15,10 +15,13 @@ const LAST_STATION: u32 = 15;
 // The longest step, in minutes.
 const LONGEST_STEP: u32 = 1440;
 
+// The most steps of a vehicle.
+pub const MOST_STEPS: usize = 8;
+
 // A vehicle's steps, in their order.
 #[derive(Clone, Copy)]
 pub struct Vehicle {
-    pub steps: Short<StepRecord, 8>,
+    pub steps: Short<StepRecord, MOST_STEPS>,
 }
 
 impl Vehicle {
@@ -33,13 +36,13 @@ impl Vehicle {
     }
 
     // How many steps of the vehicle are begun.
-    pub(crate) fn begun(&self) -> usize
+    pub fn begun(&self) -> usize
         ensures { result ≡ next_step (steps_of self.now) }
     {
         self.next().unwrap_or(self.steps.as_slice().len())
     }
 
-    // The number of the running step, where one runs.
+    // The number of the running step, where one runs: a chain as that of `next`, of another progress.
     pub(crate) fn running(&self) -> Option<usize>
         ensures { result ≡ position (λ r. running r.progress) (steps_of self.now) }
     {
@@ -59,14 +62,21 @@ impl Vehicle {
         ) && record.station == station)
     }
 
+    // Writes another progress of step `j`.
+    fn mark(&mut self, j: usize, progress: Progress)
+        requires { j < length (steps_of self.old) }
+        ensures steps { steps_of self.new ≡ steps_with (steps_of self.old) j progress }
+    {
+        let record = self.steps.as_slice()[j];
+        self.steps.set(j, StepRecord { progress, ..record });
+    }
+
     // Writes the begin of step `j`.
     pub(crate) fn start(&mut self, j: usize, minute: u32)
         requires { j < length (steps_of self.old) }
         ensures steps { steps_of self.new ≡ steps_with (steps_of self.old) j (Running minute) }
     {
-        let record = self.steps.as_slice()[j];
-        let progress = Progress::Running { begin: minute };
-        self.steps.set(j, StepRecord { progress, ..record });
+        self.mark(j, Progress::Running { begin: minute });
     }
 
     // Writes the end of step `j`.
@@ -75,10 +85,8 @@ impl Vehicle {
         ensures steps { steps_of self.new
             ≡ steps_with (steps_of self.old) j (Done (begin_of (slice_index_or (steps_of self.old) j blank).progress) minute) }
     {
-        let record = self.steps.as_slice()[j];
-        let begin = record.progress.begin();
-        let progress = Progress::Done { begin, end: minute };
-        self.steps.set(j, StepRecord { progress, ..record });
+        let begin = self.steps.as_slice()[j].progress.begin();
+        self.mark(j, Progress::Done { begin, end: minute });
     }
 
     // The vehicle with these steps, none begun.
@@ -107,8 +115,7 @@ pub(crate) fn step_fault(steps: &[Step]) -> Result<(), BoardFault>
         if step.station > LAST_STATION {
             return Err(BoardFault::StationUnknown(k as u32));
         }
-        let length = step.length;
-        if length < 1 || length > LONGEST_STEP {
+        if !(1..=LONGEST_STEP).contains(&step.length) {
             return Err(BoardFault::LengthOutside(k as u32));
         }
     }

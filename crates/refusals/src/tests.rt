@@ -4,7 +4,6 @@ use sheet::fault::{FaultReport, SheetFault};
 use sheet::line::line;
 use sheet::print::Printed;
 use sheet::run::Cursor;
-use std::process::Abort;
 use std::test::Fail;
 
 // Runs a sheet on a new board, up to the first line that is refused.
@@ -28,95 +27,93 @@ fn numbers(report: FaultReport) -> Numbers {
     )
 }
 
-// Checks that a sheet is refused, and with which numbers.
-fn refused(rt: &impl Abort, text: &[u8], told: Numbers) -> Result<(), Fail> {
-    let Err(fault) = run(text) else {
-        return Err(Fail::new("accepted"));
-    };
-    assert_eq!(rt; numbers(fault.report()), told);
-    Ok(())
+// The numbers by which a sheet is refused, if it is.
+fn refusal(text: &[u8]) -> Option<Numbers> {
+    run(text).err().map(|fault| numbers(fault.report()))
+}
+
+// The numbers by which a line is refused on the board, as line `number` of a sheet, if it is.
+fn line_refusal(board: &mut Board, bytes: &[u8], number: usize) -> Option<Numbers> {
+    let answer = line(board, bytes);
+    answer.err().map(|fault| numbers(fault.report(number)))
+}
+
+// The number and the field by which a booking is refused, if it is.
+fn booking_refusal(board: &mut Board, steps: &[Step]) -> Option<(u32, usize)> {
+    let answer = board.enter(steps);
+    answer.err().map(|fault| (fault.refusal(), fault.field()))
 }
 
 #[test]
-fn text_and_record(rt: HostRuntime) -> Result<(), Fail> {
-    refused(&rt, b"V\t0\t3\t01\t2\n", (1, 1, 1, 3, 6))?;
-    refused(&rt, b"T\t12345678", (1, 1, 1, 1, 2))?;
-    refused(&rt, b"V\t0\t3\nW\t0\n", (2, 2, 2, 0, 0))?;
-    refused(&rt, b"\n", (1, 2, 2, 0, 0))?;
-    refused(&rt, b"V\t0\t3\t1\n", (1, 2, 3, 0, 0))?;
-    refused(&rt, b"B\tx\ty\n", (1, 2, 3, 0, 0))
+fn text_and_record(rt: HostRuntime) {
+    assert_eq!(rt; refusal(b"V\t0\t3\t01\t2\n"), Some((1, 1, 1, 3, 6)));
+    assert_eq!(rt; refusal(b"T\t12345678"), Some((1, 1, 1, 1, 2)));
+    assert_eq!(rt; refusal(b"V\t0\t3\nW\t0\n"), Some((2, 2, 2, 0, 0)));
+    assert_eq!(rt; refusal(b"\n"), Some((1, 2, 2, 0, 0)));
+    assert_eq!(rt; refusal(b"V\t0\t3\t1\n"), Some((1, 2, 3, 0, 0)));
+    assert_eq!(rt; refusal(b"B\tx\ty\n"), Some((1, 2, 3, 0, 0)));
 }
 
 #[test]
-fn fitter(rt: HostRuntime) -> Result<(), Fail> {
-    refused(&rt, b"B\t0\n", (1, 3, 10, 1, 2))?;
-    refused(&rt, b"F\t7\n", (1, 3, 10, 1, 2))?;
-    refused(&rt, b"V\t0\t3\nB\t0\nB\t0\n", (3, 3, 11, 1, 2))?;
-    refused(&rt, b"V\t0\t3\nB\t0\nT\t3\nF\t0\nB\t0\n", (5, 3, 12, 1, 2))?;
-    refused(
-        &rt,
-        b"V\t0\t3\nV\t0\t4\nB\t0\nT\t10\nB\t1\n",
-        (5, 3, 13, 1, 2),
-    )?;
-    refused(&rt, b"V\t0\t3\nF\t0\n", (2, 3, 14, 1, 2))?;
-    refused(&rt, b"V\t0\t3\nB\t0\nT\t2\nF\t0\n", (4, 3, 15, 1, 2))
+fn fitter(rt: HostRuntime) {
+    assert_eq!(rt; refusal(b"B\t0\n"), Some((1, 3, 10, 1, 2)));
+    assert_eq!(rt; refusal(b"F\t7\n"), Some((1, 3, 10, 1, 2)));
+    assert_eq!(rt; refusal(b"V\t0\t3\nB\t0\nB\t0\n"), Some((3, 3, 11, 1, 2)));
+    assert_eq!(rt;
+        refusal(b"V\t0\t3\nB\t0\nT\t3\nF\t0\nB\t0\n"),
+        Some((5, 3, 12, 1, 2))
+    );
+    assert_eq!(rt;
+        refusal(b"V\t0\t3\nV\t0\t4\nB\t0\nT\t10\nB\t1\n"),
+        Some((5, 3, 13, 1, 2))
+    );
+    assert_eq!(rt; refusal(b"V\t0\t3\nF\t0\n"), Some((2, 3, 14, 1, 2)));
+    assert_eq!(rt;
+        refusal(b"V\t0\t3\nB\t0\nT\t2\nF\t0\n"),
+        Some((4, 3, 15, 1, 2))
+    );
 }
 
 #[test]
 fn clock(rt: HostRuntime) -> Result<(), Fail> {
-    refused(&rt, b"T\t0\n", (1, 3, 16, 1, 2))?;
-    refused(&rt, b"T\t1441\n", (1, 3, 16, 1, 2))?;
+    assert_eq!(rt; refusal(b"T\t0\n"), Some((1, 3, 16, 1, 2)));
+    assert_eq!(rt; refusal(b"T\t1441\n"), Some((1, 3, 16, 1, 2)));
     let mut board = Board::new();
     for _ in 0..694 {
         assert_eq!(rt; line(&mut board, b"T\t1440").is_ok(), true);
     }
-    let Err(fault) = line(&mut board, b"T\t641") else {
-        return Err(Fail::new("accepted"));
-    };
-    assert_eq!(rt; numbers(fault.report(9)), (9, 3, 17, 1, 2));
+    assert_eq!(rt;
+        line_refusal(&mut board, b"T\t641", 9),
+        Some((9, 3, 17, 1, 2))
+    );
     assert_eq!(rt; board.pass(640)?, 1_000_000);
     Ok(())
 }
 
-// Checks that a booking is refused, and with which number and field.
-fn not_booked(
-    rt: &impl Abort,
-    board: &mut Board,
-    steps: &[Step],
-    told: (u32, usize),
-) -> Result<(), Fail> {
-    let Err(fault) = board.enter(steps) else {
-        return Err(Fail::new("accepted"));
-    };
-    assert_eq!(rt; (fault.refusal(), fault.field()), told);
-    Ok(())
-}
-
 #[test]
-fn booking(rt: HostRuntime) -> Result<(), Fail> {
-    refused(&rt, b"V\t0\t3\t16\t2\n", (1, 3, 22, 3, 6))?;
-    refused(&rt, b"V\t0\t1441\n", (1, 3, 23, 2, 4))?;
+fn booking(rt: HostRuntime) {
+    assert_eq!(rt; refusal(b"V\t0\t3\t16\t2\n"), Some((1, 3, 22, 3, 6)));
+    assert_eq!(rt; refusal(b"V\t0\t1441\n"), Some((1, 3, 23, 2, 4)));
     let mut board = Board::new();
     let step = Step {
         station: 15,
         length: 1440,
     };
-    not_booked(&rt, &mut board, &[], (21, 0))?;
-    not_booked(&rt, &mut board, &[step; 9], (21, 0))?;
+    assert_eq!(rt; booking_refusal(&mut board, &[]), Some((21, 0)));
+    assert_eq!(rt; booking_refusal(&mut board, &[step; 9]), Some((21, 0)));
     for _ in 0..24 {
         assert_eq!(rt; line(&mut board, b"V\t15\t1440").is_ok(), true);
     }
-    let Err(fault) = line(&mut board, b"V\t16\t0") else {
-        return Err(Fail::new("accepted"));
-    };
-    assert_eq!(rt; numbers(fault.report(25)), (25, 3, 20, 0, 0));
-    Ok(())
+    assert_eq!(rt;
+        line_refusal(&mut board, b"V\t16\t0", 25),
+        Some((25, 3, 20, 0, 0))
+    );
 }
 
 #[test]
 fn sheet_itself(rt: HostRuntime) -> Result<(), Fail> {
     let text = vec![in rt.alloc(); b'\n'; 60_001]?;
-    refused(&rt, &text, (0, 4, 5, 0, 0))?;
+    assert_eq!(rt; refusal(&text), Some((0, 4, 5, 0, 0)));
     let fault = SheetFault::TooLong;
     let mut place = [b'.'; 13];
     assert_eq!(rt; fault.print(&mut place)?, 12);

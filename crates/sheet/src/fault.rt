@@ -9,14 +9,14 @@ use text::cells::PrintFault;
 use text::number::NumberFault;
 
 // A field of a line and its byte offset. Fields are counted from 0, and an offset is that of the field's first byte.
-#[derive(Clone, Copy, Debug, PartialEq)]
+#[derive(Clone, Copy, Debug, PartialEq, Eq)]
 pub struct Spot {
     pub field: usize,
     pub offset: usize,
 }
 
 // Why a line is refused.
-#[derive(Clone, Copy, Debug, PartialEq)]
+#[derive(Clone, Copy, Debug, PartialEq, Eq)]
 pub enum LineFault {
     Number { fault: NumberFault, spot: Spot },
     KindUnknown,
@@ -25,7 +25,7 @@ pub enum LineFault {
 }
 
 // Why a sheet is refused. Lines are counted from 1.
-#[derive(Clone, Copy, Debug, PartialEq)]
+#[derive(Clone, Copy, Debug, PartialEq, Eq)]
 pub enum SheetFault {
     TooLong,
     NoRoom,
@@ -33,7 +33,7 @@ pub enum SheetFault {
 }
 
 // What refuses: the text of a number, the record of a line, the board, or the sheet itself. The rules number the layers.
-#[derive(Clone, Copy, Debug, PartialEq)]
+#[derive(Clone, Copy, Debug, PartialEq, Eq)]
 pub enum Layer {
     Text = 1,
     Record = 2,
@@ -41,8 +41,9 @@ pub enum Layer {
     Sheet = 4,
 }
 
-// What is told of a fault. The rules number refusals, over all layers.
-#[derive(Clone, Copy, Debug, PartialEq)]
+// What is told of a fault, as it is printed: five numbers, of which a spot would be two. The rules number refusals, over all
+// layers.
+#[derive(Clone, Copy, Debug, PartialEq, Eq)]
 pub struct FaultReport {
     pub line: usize,
     pub layer: Layer,
@@ -103,6 +104,7 @@ impl SheetFault {
     }
 }
 
+// By a rule of the project `From` lifts a fault into a case of the layer above, with what that says beside it.
 impl From<(Spot, NumberFault)> for LineFault {
     ghost from_gives = { λ e r. r ≡ lines.Number e.1 e.0 };
 

@@ -5,12 +5,10 @@ ghost use Rattle.sheet.specs.Reading.{letter, kind_of, count_fits, letter_of};
 ghost use Rattle.sheet.specs.declared.fault.LineFault.TheVariants as lines;
 
 use crate::fault::LineFault;
-
-// The most pairs of station and length that a vehicle's line has.
-const MOST_PAIRS: usize = 8;
+use hall::vehicle::MOST_STEPS;
 
 // What a line is about: a vehicle that enters, a step that begins or finishes, or minutes that pass.
-#[derive(Clone, Copy, Debug, PartialEq)]
+#[derive(Clone, Copy, Debug, PartialEq, Eq)]
 pub enum Kind {
     Vehicle,
     Begin,
@@ -18,7 +16,7 @@ pub enum Kind {
     Pass,
 }
 
-// The kind that a field names by its one byte.
+// The kind that a field names by its one byte, which by a rule of the project is taken alone, as a char.
 impl TryFrom<&[u8]> for Kind {
     type Error = LineFault;
 
@@ -58,7 +56,7 @@ impl Kind {
         ensures { result ≡ count_fits self (tabs + 1) }
     {
         match self {
-            Kind::Vehicle => (2..=2 * MOST_PAIRS).contains(&tabs) && tabs % 2 == 0,
+            Kind::Vehicle => (2..=2 * MOST_STEPS).contains(&tabs) && tabs % 2 == 0,
             _ => tabs == 1,
         }
     }

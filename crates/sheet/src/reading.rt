@@ -6,17 +6,21 @@ ghost use Rattle.sheet.specs.Reading.{letter, offset_of, value_of, spotted, on_o
 use crate::fault::{LineFault, Spot};
 use crate::kind::Kind;
 use hall::step::Step;
+use hall::vehicle::MOST_STEPS;
 use short::Short;
 use text::bytes::{count, find};
 use text::number::{NumberFault, read_minutes, read_number};
 
 // The byte that parts fields.
-const TAB: u8 = 9;
+const TAB: u8 = b'\t';
+
+// The most numbers behind the kind of a line: two for each step of a vehicle.
+const MOST_NUMBERS: usize = 16;
 
 // A call of the board with its arguments.
 #[derive(Clone, Copy)]
 pub(crate) enum Request {
-    Enter(Short<Step, 8>),
+    Enter(Short<Step, MOST_STEPS>),
     Begin(u32),
     Finish(u32),
     Pass(u32),
@@ -70,7 +74,7 @@ fn value_at(kind: Kind, line: &[u8], field: usize, bytes: &[u8]) -> Result<u32, 
 }
 
 // The numbers behind the kind of a line, whose kind is one byte.
-fn read_numbers(kind: Kind, line: &[u8]) -> Result<Short<u32, 16>, LineFault>
+fn read_numbers(kind: Kind, line: &[u8]) -> Result<Short<u32, MOST_NUMBERS>, LineFault>
     requires { (tally 9 line.now ≤ 16) × (length (before 9 line.now) ≡ 1) }
     ensures value { on_ok (λ numbers. numbers.items) result ≡ values_of kind 1 2 (drop 1 (parted 9 line.now)) }
     ensures len { IfOk result (λ numbers. length numbers.items ≡ tally 9 line.now) }
@@ -83,7 +87,7 @@ fn read_numbers(kind: Kind, line: &[u8]) -> Result<Short<u32, 16>, LineFault>
 }
 
 // The steps that pairs of numbers give.
-fn pair_steps(numbers: &Short<u32, 16>) -> Short<Step, 8>
+fn pair_steps(numbers: &Short<u32, MOST_NUMBERS>) -> Short<Step, MOST_STEPS>
     ensures { result.items ≡ steps_of numbers.now.items }
 {
     let mut steps = Short::empty(Step {
@@ -100,7 +104,7 @@ fn pair_steps(numbers: &Short<u32, 16>) -> Short<Step, 8>
 }
 
 // The call that a line of this kind with these numbers asks for.
-fn asked(kind: Kind, numbers: &Short<u32, 16>) -> Request
+fn asked(kind: Kind, numbers: &Short<u32, MOST_NUMBERS>) -> Request
     requires { 1 ≤ length numbers.now.items }
     ensures call { call_of result ≡ call_for kind numbers.now.items }
     ensures kind { asking result ≡ kind }

@@ -6,7 +6,7 @@ use crate::kind::Kind;
 pub mod lines;
 
 // What an accepted line did: its number, counted from 1, its kind and what its call answered.
-#[derive(Clone, Copy, Debug, PartialEq)]
+#[derive(Clone, Copy, Debug, PartialEq, Eq)]
 pub struct Entry {
     pub line: usize,
     pub kind: Kind,

@@ -6,7 +6,7 @@ ghost use Rattle.std.specs.Prelude.{◌≡◌, ◌-◌, ◌<◌, ◌≤◌, [], 
 use std::marker::Model;
 
 // A list of at most `N` items. It lies in the value that holds it, so it needs no memory and is copied with that value.
-// The places behind its items hold whatever was in them.
+// The places behind its items hold whatever was in them. The kit's `ArrayVec` is not `Copy`.
 #[derive(Clone, Copy)]
 pub struct Short<T, const N: usize> {
     places: [T; N],

@@ -8,19 +8,19 @@ use std::iter;
 
 // What stands between two tabs of a printed line: a whole number, or one byte as it is. It is no `Display`, which
 // writes UTF-8: from 128 on a symbol would be two bytes there.
-#[derive(Clone, Copy, Debug, PartialEq)]
+#[derive(Clone, Copy, Debug, PartialEq, Eq)]
 pub enum Cell {
     Number(u64),
     Symbol(u8),
 }
 
 // Why a line is not printed.
-#[derive(Clone, Copy, Debug, PartialEq)]
+#[derive(Clone, Copy, Debug, PartialEq, Eq)]
 pub enum PrintFault {
     NoRoom,
 }
 
-// A line that is being printed: the lent slice, and how much of its front is written.
+// A line that is being printed: the slice that its caller lends, and how much of its front is written.
 #[derive(Drop)]
 struct Line<'a> {
     place: &'a mut [u8],

@@ -6,7 +6,7 @@ ghost use Rattle.text.specs.Number.{digit_of, number_shape, number_of, minutes_o
 const MAX_DIGITS: usize = 7;
 
 // Why a field is no number.
-#[derive(Clone, Copy, Debug, PartialEq)]
+#[derive(Clone, Copy, Debug, PartialEq, Eq)]
 pub enum NumberFault {
     Malformed,
 }
@@ -35,7 +35,7 @@ pub fn read_number(field: &[u8]) -> Result<u32, NumberFault>
     if !has_shape(field) {
         return Err(NumberFault::Malformed);
     }
-    // `str::parse` takes a `+` before the digits, and was ten times as slow here.
+    // `str::parse` takes a `+` before the digits, and was ten times as slow here; of `try_fold` the check proves no clause.
     let mut n = 0;
     for b in field {
         n = n * 10 + digit(*b)?;

@@ -8,15 +8,10 @@ ghost use Rattle.hall.specs.View.{steps_of};
 ghost use Rattle.hall.specs.Job.{config_of, Begins, Finishes, Passes, Exactly};
 ghost use Rattle.hall.specs.Series.{KeptFromArguments, RunsAsComposed};
 
-use super::Board;
+use super::{Board, MOST_VEHICLES};
 use crate::fault::BoardFault;
 use crate::step::Step;
-use crate::vehicle::{Vehicle, step_fault};
-
-// How many vehicles the table takes, and how many steps a vehicle.
-const MOST_VEHICLES: usize = 24;
-
-const MOST_STEPS: usize = 8;
+use crate::vehicle::{MOST_STEPS, Vehicle, step_fault};
 
 // The most minutes that pass in one call, and the last minute of a board.
 const LONGEST_PASS: u32 = 1440;
@@ -31,7 +26,7 @@ impl Board {
         ensures runs { RunsAsComposed result }
     {
         Board {
-            vehicles: [Vehicle::booked(&[]); 24],
+            vehicles: [Vehicle::booked(&[]); MOST_VEHICLES],
             count: 0,
             minute: 0,
         }
@@ -144,7 +139,7 @@ impl Board {
         ensures called { Called self.old (pass minutes) result self.new }
         ensures step { Exactly (Passes (hall_log self.old) minutes) result (config_of (hall_log self.new)) }
     {
-        if minutes < 1 || minutes > LONGEST_PASS {
+        if !(1..=LONGEST_PASS).contains(&minutes) {
             return Err(BoardFault::MinutesOutside);
         }
         let minute = self.minute + minutes;

@@ -11,7 +11,7 @@ use hall::board::Board;
 use text::bytes::find;
 
 // The byte that ends a line.
-const NEWLINE: u8 = 10;
+const NEWLINE: u8 = b'\n';
 
 // The most bytes that a sheet has.
 const MOST_BYTES: usize = 60_000;
