@@ -8,12 +8,15 @@ ghost use Rattle.walker.specs.Moves.{FleetOk, RecordOk, Sane, BegunWithin, CanMo
 ghost use Rattle.walker.specs.Bounds.{total_length, finish_by, finish_in};
 
 use crate::setting::Setting;
-use goals::{Goal, score_of};
+use goals::{Goal, MOST_VEHICLES, score_of};
 use hall::step::StepRecord;
 use hall::vehicle::Vehicle;
 use hours::{Hours, least_begin};
 use plans::row::Row;
 use short::Short;
+
+// The most stations that a hall has.
+pub const MOST_STATIONS: usize = 16;
 
 // Where a vehicle stands: how many of its steps are begun, and the minute from which it is free.
 #[derive(Clone, Copy)]
@@ -25,8 +28,8 @@ pub struct Standing {
 // Where each vehicle stands, for each station the minute from which it is free, and the clock.
 #[derive(Clone, Copy)]
 pub struct Position {
-    pub vehicles: [Standing; 24],
-    pub stations: [u32; 16],
+    pub vehicles: [Standing; MOST_VEHICLES],
+    pub stations: [u32; MOST_STATIONS],
     pub clock: u32,
 }
 
@@ -95,7 +98,7 @@ impl Position {
 
     // The least minute at which the vehicle can finish.
     fn finish_of(&self, vehicle: &Vehicle, v: usize) -> u32
-        requires known { v < 24 }
+        requires known { v < MOST_VEHICLES }
         requires record { RecordOk vehicle.now }
         requires sane { Sane self.now }
         ensures value { result ≡ finish_by vehicle.now self.now v }
@@ -117,7 +120,7 @@ impl Position {
             ≡ scored (G.Goal.adding by.now.goal.now) (G.Goal.starting by.now.goal.now)
             (map (finish_in by.now.fleet.now self.now) (range_with_len 0 (length by.now.fleet.now))) }
     {
-        let mut finishes: Short<u32, 24> = Short::empty(0);
+        let mut finishes: Short<u32, MOST_VEHICLES> = Short::empty(0);
         for (v, vehicle) in by.fleet.iter().enumerate() {
             finishes.push(self.finish_of(vehicle, v));
         }

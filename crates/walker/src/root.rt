@@ -8,7 +8,8 @@ ghost use Rattle.plans.specs.Position.{runs_until};
 ghost use Rattle.walker.specs.Roots.{stood, Past};
 ghost use Rattle.walker.specs.View.{RootOf};
 
-use crate::position::{Position, Standing};
+use crate::position::{MOST_STATIONS, Position, Standing};
+use goals::MOST_VEHICLES;
 use hall::board::Board;
 use hall::step::{Progress, StepRecord};
 use hall::vehicle::Vehicle;
@@ -43,7 +44,7 @@ fn runs_until(step: StepRecord, minute: u32) -> u32
 // Adds vehicle `v`, of whose steps `begun` are begun, to the position.
 fn stand(position: &mut Position, vehicle: &Vehicle, v: usize, begun: usize, minute: u32)
     requires past { Past minute vehicle.now }
-    requires known { v < 24 }
+    requires known { v < MOST_VEHICLES }
     requires within { begun ≤ length (steps_of vehicle.now) }
     ensures value { position.new ≡ stood minute vehicle.now v begun position.old }
 {
@@ -65,8 +66,8 @@ pub fn root_of(board: &Board) -> Position
     let minute = board.minute();
     let fleet = board.vehicles();
     let mut position = Position {
-        vehicles: [Standing { begun: 0, free: 0 }; 24],
-        stations: [0; 16],
+        vehicles: [Standing { begun: 0, free: 0 }; MOST_VEHICLES],
+        stations: [0; MOST_STATIONS],
         clock: minute,
     };
     // `v` is below 24, and the board takes a vehicle's number as `u32`

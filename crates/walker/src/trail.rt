@@ -6,10 +6,17 @@ ghost use Rattle.walker.specs.Trail.{Found, TrailOk, Turned, Pushed, Opened, Pop
 
 use crate::position::{Move, Position};
 use crate::setting::Setting;
-use hall::vehicle::Vehicle;
+use goals::MOST_VEHICLES;
+use hall::vehicle::{MOST_STEPS, Vehicle};
 use hours::Hours;
 use plans::row::Row;
 use short::Short;
+
+// The most rows of a plan: one for each step of each vehicle.
+pub const MOST_ROWS: usize = MOST_VEHICLES * MOST_STEPS;
+
+// The most frames of a trail: the root's, and one for each row.
+pub const MOST_FRAMES: usize = MOST_ROWS + 1;
 
 // A position and the next vehicle to move from it.
 #[derive(Clone, Copy)]
@@ -19,11 +26,11 @@ pub struct Frame {
 }
 
 // The frames lead from the root: the last of them is due, those before it are visited. The path has the row of each move.
-// At the root `steps` are to begin, at most the 192 of a hall.
+// At the root `steps` are to begin, at most `MOST_ROWS`.
 #[derive(Clone, Copy)]
 pub struct Trail {
-    pub frames: Short<Frame, 193>,
-    pub path: Short<Row, 192>,
+    pub frames: Short<Frame, MOST_FRAMES>,
+    pub path: Short<Row, MOST_ROWS>,
     pub steps: usize,
 }
 
@@ -66,8 +73,8 @@ impl Trail {
     // Makes the move from the top frame.
     fn push(&mut self, fleet: &[Vehicle], m: Move)
         requires some { 0 < length self.old.frames.items }
-        requires frames { length self.old.frames.items < 193 }
-        requires path { length self.old.path.items < 192 }
+        requires frames { length self.old.frames.items < MOST_FRAMES }
+        requires path { length self.old.path.items < MOST_ROWS }
         requires can { CanMove fleet.now (top_of self.old).at m.vehicle m.begin }
         ensures value { Pushed fleet.now m self.old self.new }
     {

@@ -7,7 +7,7 @@ ghost use Rattle.walker.specs.Visits.{WalkerOk, held_in, score_held, stage_of, s
 ghost use Rattle.walker.specs.Answers.{outcome_in, written_by};
 
 use crate::setting::Setting;
-use crate::trail::Trail;
+use crate::trail::{MOST_ROWS, Trail};
 use goals::Goal;
 use hours::Hours;
 use plans::answer::Outcome;
@@ -18,7 +18,7 @@ use short::Short;
 #[derive(Clone, Copy)]
 pub struct ScoredPlan<S> {
     pub score: S,
-    pub rows: Short<Row, 192>,
+    pub rows: Short<Row, MOST_ROWS>,
 }
 
 // The trail to the next position, the best plan so far, and the visits made. What is kept of it (`WalkerOk`) is about the
