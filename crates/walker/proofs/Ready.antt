@@ -2,7 +2,7 @@
 use Rattle.std.proofs.Common.{◌≡◌, ℕ, ◌+◌, ◌<◌, ◌≤◌, List, [], length, sym, refl, ap, ◌∙◌, inl, inr, add-one, arith}
 use Rattle.std.proofs.lemmas.Bool.{cases_lt}
 use Rattle.std.proofs.lemmas.List.{get_or_past}
-use Rattle.hall.specs.Log.{Log, next_step, vehicle_at}
+use Rattle.hall.specs.Log.{Log, next_step, vehicle_at, begin_of}
 use Rattle.hall.specs.Hall.{hall_log, fleet_of}
 use Rattle.hall.specs.declared.board.Board.{Board}
 use Rattle.hall.specs.View.{steps_of}
@@ -15,9 +15,9 @@ use Rattle.plans.proofs.Limits.{root_small}
 use Rattle.plans.proofs.Root.{root_within}
 use Rattle.walker.specs.declared.position.Position.{Position}
 use Rattle.walker.specs.Moves.{vehicle_in, RecordOk, FleetOk, Sane, BegunWithin}
-use Rattle.walker.specs.Roots.{stood, stood_upto}
+use Rattle.walker.specs.Roots.{Past, stood, stood_upto}
 use Rattle.walker.specs.View.{Tells, RootOf}
-use Rattle.walker.proofs.Views.{tells}
+use Rattle.walker.proofs.Views.{steps_told, tells}
 
 -- the laws of a board's log
 pub laws : (b : Board) → LogOk (hall_log b)
@@ -79,22 +79,37 @@ root_begun_within b p ro = record {
   sized = ro.fits.vehicles;
 }
 
+-- what is recorded of a vehicle is past
+all_past : (b : Board) (v : ℕ) → v < length (fleet_of b) → Past (hall_log b).minute (vehicle_in (fleet_of b) v)
+all_past b v h =
+    let t = tells b in
+    let ok = laws b in
+    record {
+      low = ok.now_small;
+      ok = (fleet_ok b).each v h;
+      begins = λ k l.
+          let e = ap begin_of (t.progress v k h l) in
+          let c = t.counts v h in
+          let a = t.all in
+          let p = ok.past v k (record { known = omega arith; within = omega arith }) in
+          let n = ok.now_small in
+          omega arith;
+    }
+
 -- one vehicle more, as the code has its record, its begun steps and the minute
 module _ (b : Board) (w : Vehicle) (minute begun v : ℕ) (known : v < length (fleet_of b)) (is : w ≡ vehicle_in (fleet_of b) v)
-    (now : minute ≡ (hall_log b).minute) (front : begun ≡ next_step (vehicle_at (hall_log b) v)) where
-  pub begun_fits : begun ≤ length (steps_of w)
-  unfolding begun_of
-  begun_fits =
-      let c = (tells b).counts v known in
-      let n = root_within (hall_log b) v in
-      let len = ap (λ (x : Vehicle). length (steps_of x)) is in
-      omega arith
+    (now : minute ≡ (hall_log b).minute) (front : begun ≡ next_step (steps_of w)) where
+  pub stands_past : Past minute w
+  stands_past = rw now (rw is (all_past b v known))
+
+  told : next_step (steps_of w) ≡ next_step (vehicle_at (hall_log b) v)
+  told = ap (λ (x : Vehicle). next_step (steps_of x)) is ∙ ap next_step (sym (steps_told b v known))
 
   pub stands_more : (p q : Position) → p ≡ stood_upto (hall_log b) (fleet_of b) v → q ≡ stood minute w v begun p → q ≡ stood_upto (hall_log b) (fleet_of b) (v + 1)
   unfolding begun_of
   stands_more p q e f =
       f ∙ ap (λ m. stood m w v begun p) now
       ∙ ap (λ x. stood (hall_log b).minute x v begun p) is
-      ∙ ap (λ k. stood (hall_log b).minute (vehicle_in (fleet_of b) v) v k p) front
+      ∙ ap (λ k. stood (hall_log b).minute (vehicle_in (fleet_of b) v) v k p) (front ∙ told)
       ∙ ap (stood (hall_log b).minute (vehicle_in (fleet_of b) v) v (next_step (vehicle_at (hall_log b) v))) e
       ∙ ap (stood_upto (hall_log b) (fleet_of b)) (sym (add-one v))

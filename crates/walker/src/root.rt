@@ -70,9 +70,8 @@ pub fn root_of(board: &Board) -> Position
         stations: [0; MOST_STATIONS],
         clock: minute,
     };
-    // `v` is below 24, and the board takes a vehicle's number as `u32`
     for (v, vehicle) in fleet.iter().enumerate() {
-        stand(&mut position, vehicle, v, board.begun(v as u32), minute);
+        stand(&mut position, vehicle, v, vehicle.begun(), minute);
     }
     position
 }

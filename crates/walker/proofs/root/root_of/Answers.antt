@@ -1,21 +1,29 @@
 use Rattle.std.proofs.Common.{◌≡◌, ◌<◌, length, sym, ap, ◌∙◌, subst, arith, refl}
 use Rattle.std.proofs.lemmas.List.{get_or_read_under}
+use Rattle.std.proofs.lemmas.List.Sums.{prefix_len-le-length}
+use Rattle.hall.specs.Log.{begun}
+use Rattle.hall.specs.View.{steps_of}
 use Rattle.hall.specs.Hall.{hall_log, fleet_of}
 use Rattle.walker.specs.Moves.{no_vehicle, vehicle_in}
 use Rattle.walker.specs.Roots.{stood_upto}
 use Rattle.walker.specs.View.{RootOf}
-use Rattle.walker.proofs.Ready.{begun_fits, stands_more}
+use Rattle.walker.proofs.Ready.{stands_past, stands_more}
 use Rattle.walker.proofs.Rooted.{rooted}
 use Rattle.walker.proofs.root.root_of.Goals as goal
 
-pub stand-requires-clause-within : goal.stand-requires-clause-within
-stand-requires-clause-within c =
+pub stand-requires-clause-past : goal.stand-requires-clause-past
+stand-requires-clause-past c =
     let b = c.args.board.now in
     let v = c.loop-v.v in
     let all = c.vehicles-fleet.ensures.value in
     let known : v < length (fleet_of b) = omega (arith, ap length all, c.loop-v-test.true) in
     let at = get_or_read_under c.vehicles-fleet.result.now v _ c.index-fleet-v.result no_vehicle c.index-fleet-v.is c.loop-v-test.true refl ∙ ap (λ J. vehicle_in J v) all in
-    begun_fits b _ _ _ v known at c.minute-minute.ensures.value c.begun.ensures.value
+    stands_past b _ _ _ v known at c.minute-minute.ensures.value c.begun.ensures
+
+pub stand-requires-clause-within : goal.stand-requires-clause-within
+stand-requires-clause-within c =
+    let w = c.index-fleet-v.result in
+    omega (arith, c.begun.ensures, prefix_len-le-length begun (steps_of w))
 
 pub loop-v-preserved : goal.loop-v-preserved
 loop-v-preserved c =
@@ -24,7 +32,7 @@ loop-v-preserved c =
     let all = c.vehicles-fleet.ensures.value in
     let known : v < length (fleet_of b) = omega (arith, ap length all, c.loop-v-test.true) in
     let at = get_or_read_under c.vehicles-fleet.result.now v _ c.index-fleet-v.result no_vehicle c.index-fleet-v.is c.loop-v-test.true refl ∙ ap (λ J. vehicle_in J v) all in
-    stands_more b _ _ _ v known at c.minute-minute.ensures.value c.begun.ensures.value
+    stands_more b _ _ _ v known at c.minute-minute.ensures.value c.begun.ensures
     c.loop-v.position _ c.loop-v.invariant c.stand.ensures.value
 
 pub returns : goal.returns
