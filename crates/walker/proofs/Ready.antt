@@ -1,7 +1,7 @@
 -- What every board keeps, for the code of the walk.
-use Rattle.std.proofs.Common.{◌≡◌, ℕ, ◌+◌, ◌<◌, ◌≤◌, List, [], length, sym, refl, ap, ◌∙◌, inl, inr, add-one, arith}
+use Rattle.std.proofs.Common.{get_or, ◌≡◌, ℕ, ◌+◌, ◌<◌, ◌≤◌, List, [], length, sym, refl, ap, ◌∙◌, inl, inr, add-one, arith}
 use Rattle.std.proofs.lemmas.Bool.{cases_lt}
-use Rattle.std.proofs.lemmas.List.{get_or_past}
+use Rattle.std.proofs.lemmas.List.{get_or_past, get_or_read}
 use Rattle.hall.specs.Log.{Log, next_step, vehicle_at, begin_of}
 use Rattle.hall.specs.Hall.{hall_log, fleet_of}
 use Rattle.hall.specs.declared.board.Board.{Board}
@@ -14,7 +14,7 @@ use Rattle.plans.proofs.Logs.{LogOk, log_ok}
 use Rattle.plans.proofs.Limits.{root_small}
 use Rattle.plans.proofs.Root.{root_within}
 use Rattle.walker.specs.declared.position.Position.{Position}
-use Rattle.walker.specs.Moves.{vehicle_in, RecordOk, FleetOk, Sane, BegunWithin}
+use Rattle.walker.specs.Moves.{no_vehicle, vehicle_in, RecordOk, FleetOk, Sane, BegunWithin}
 use Rattle.walker.specs.Roots.{Past, stood, stood_upto}
 use Rattle.walker.specs.View.{Tells, RootOf}
 use Rattle.walker.proofs.Views.{steps_told, tells}
@@ -96,20 +96,24 @@ all_past b v h =
           omega arith;
     }
 
--- one vehicle more, as the code has its record, its begun steps and the minute
-module _ (b : Board) (w : Vehicle) (minute begun v : ℕ) (known : v < length (fleet_of b)) (is : w ≡ vehicle_in (fleet_of b) v)
-    (now : minute ≡ (hall_log b).minute) (front : begun ≡ next_step (steps_of w)) where
+-- one vehicle more, as the code reads its record from the vehicles, and the minute
+module _ (b : Board) (J : List Vehicle) (w : Vehicle) (minute v : ℕ) (all : J ≡ fleet_of b) (known : v < length J) (read : w ≡ get_or J v w)
+    (now : minute ≡ (hall_log b).minute) where
+  here : v < length (fleet_of b)
+  here = omega (arith, ap length all, known)
+
+  is : w ≡ vehicle_in (fleet_of b) v
+  is = get_or_read J v w known read no_vehicle ∙ ap (λ xs. vehicle_in xs v) all
+
   pub stands_past : Past minute w
-  stands_past = rw now (rw is (all_past b v known))
+  stands_past = rw now (rw is (all_past b v here))
 
-  told : next_step (steps_of w) ≡ next_step (vehicle_at (hall_log b) v)
-  told = ap (λ (x : Vehicle). next_step (steps_of x)) is ∙ ap next_step (sym (steps_told b v known))
-
-  pub stands_more : (p q : Position) → p ≡ stood_upto (hall_log b) (fleet_of b) v → q ≡ stood minute w v begun p → q ≡ stood_upto (hall_log b) (fleet_of b) (v + 1)
+  pub stands_more : (begun : ℕ) (p q : Position) → begun ≡ next_step (steps_of w) → p ≡ stood_upto (hall_log b) (fleet_of b) v → q ≡ stood minute w v begun p → q ≡ stood_upto (hall_log b) (fleet_of b) (v + 1)
   unfolding begun_of
-  stands_more p q e f =
+  stands_more begun p q front e f =
       f ∙ ap (λ m. stood m w v begun p) now
-      ∙ ap (λ x. stood (hall_log b).minute x v begun p) is
-      ∙ ap (λ k. stood (hall_log b).minute (vehicle_in (fleet_of b) v) v k p) (front ∙ told)
+      ∙ ap (λ k. stood (hall_log b).minute w v k p) front
+      ∙ ap (λ x. stood (hall_log b).minute x v (next_step (steps_of x)) p) is
+      ∙ ap (λ r. stood (hall_log b).minute (vehicle_in (fleet_of b) v) v (next_step r) p) (sym (steps_told b v here))
       ∙ ap (stood (hall_log b).minute (vehicle_in (fleet_of b) v) v (next_step (vehicle_at (hall_log b) v))) e
       ∙ ap (stood_upto (hall_log b) (fleet_of b)) (sym (add-one v))

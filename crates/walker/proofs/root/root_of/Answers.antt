@@ -13,12 +13,7 @@ use Rattle.walker.proofs.root.root_of.Goals as goal
 
 pub stand-requires-clause-past : goal.stand-requires-clause-past
 stand-requires-clause-past c =
-    let b = c.args.board.now in
-    let v = c.loop-v.v in
-    let all = c.vehicles-fleet.ensures.value in
-    let known : v < length (fleet_of b) = omega (arith, ap length all, c.loop-v-test.true) in
-    let at = get_or_read_under c.vehicles-fleet.result.now v _ c.index-fleet-v.result no_vehicle c.index-fleet-v.is c.loop-v-test.true refl ∙ ap (λ J. vehicle_in J v) all in
-    stands_past b _ _ _ v known at c.minute-minute.ensures.value c.begun.ensures
+    stands_past c.args.board.now _ _ _ _ c.vehicles-fleet.ensures.value c.loop-v-test.true c.index-fleet-v.is c.minute-minute.ensures.value
 
 pub stand-requires-clause-within : goal.stand-requires-clause-within
 stand-requires-clause-within c =
@@ -27,13 +22,8 @@ stand-requires-clause-within c =
 
 pub loop-v-preserved : goal.loop-v-preserved
 loop-v-preserved c =
-    let b = c.args.board.now in
-    let v = c.loop-v.v in
-    let all = c.vehicles-fleet.ensures.value in
-    let known : v < length (fleet_of b) = omega (arith, ap length all, c.loop-v-test.true) in
-    let at = get_or_read_under c.vehicles-fleet.result.now v _ c.index-fleet-v.result no_vehicle c.index-fleet-v.is c.loop-v-test.true refl ∙ ap (λ J. vehicle_in J v) all in
-    stands_more b _ _ _ v known at c.minute-minute.ensures.value c.begun.ensures
-    c.loop-v.position _ c.loop-v.invariant c.stand.ensures.value
+    stands_more c.args.board.now _ _ _ _ c.vehicles-fleet.ensures.value c.loop-v-test.true c.index-fleet-v.is c.minute-minute.ensures.value
+    _ _ _ c.begun.ensures c.loop-v.invariant c.stand.ensures.value
 
 pub returns : goal.returns
 returns c =
