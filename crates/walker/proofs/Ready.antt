@@ -108,11 +108,10 @@ module _ (b : Board) (J : List Vehicle) (w : Vehicle) (minute v : ℕ) (all : J 
   pub stands_past : Past minute w
   stands_past = rw now (rw is (all_past b v here))
 
-  pub stands_more : (begun : ℕ) (p q : Position) → begun ≡ next_step (steps_of w) → p ≡ stood_upto (hall_log b) (fleet_of b) v → q ≡ stood minute w v begun p → q ≡ stood_upto (hall_log b) (fleet_of b) (v + 1)
+  pub stands_more : (p q : Position) → p ≡ stood_upto (hall_log b) (fleet_of b) v → q ≡ stood minute w v (next_step (steps_of w)) p → q ≡ stood_upto (hall_log b) (fleet_of b) (v + 1)
   unfolding begun_of
-  stands_more begun p q front e f =
-      f ∙ ap (λ m. stood m w v begun p) now
-      ∙ ap (λ k. stood (hall_log b).minute w v k p) front
+  stands_more p q e f =
+      f ∙ ap (λ m. stood m w v (next_step (steps_of w)) p) now
       ∙ ap (λ x. stood (hall_log b).minute x v (next_step (steps_of x)) p) is
       ∙ ap (λ r. stood (hall_log b).minute (vehicle_in (fleet_of b) v) v (next_step r) p) (sym (steps_told b v here))
       ∙ ap (stood (hall_log b).minute (vehicle_in (fleet_of b) v) v (next_step (vehicle_at (hall_log b) v))) e

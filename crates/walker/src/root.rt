@@ -1,6 +1,6 @@
 // The root position of a board.
 ghost use Rattle.std.specs.Prelude.{◌≡◌, ◌<◌, ◌≤◌, length};
-ghost use Rattle.hall.specs.Log.{begin_of};
+ghost use Rattle.hall.specs.Log.{begin_of, next_step};
 ghost use Rattle.hall.specs.Hall.{hall_log, fleet_of};
 ghost use Rattle.hall.specs.View.{steps_of};
 ghost use Rattle.plans.specs.Plan.{end_by};
@@ -41,13 +41,13 @@ fn runs_until(step: StepRecord, minute: u32) -> u32
     }
 }
 
-// Adds vehicle `v`, of whose steps `begun` are begun, to the position.
-fn stand(position: &mut Position, vehicle: &Vehicle, v: usize, begun: usize, minute: u32)
+// Adds vehicle `v` to the position.
+fn stand(position: &mut Position, vehicle: &Vehicle, v: usize, minute: u32)
     requires past { Past minute vehicle.now }
     requires known { v < MOST_VEHICLES }
-    requires within { begun ≤ length (steps_of vehicle.now) }
-    ensures value { position.new ≡ stood minute vehicle.now v begun position.old }
+    ensures value { position.new ≡ stood minute vehicle.now v (next_step (steps_of vehicle.now)) position.old }
 {
+    let begun = vehicle.begun();
     if begun == 0 {
         position.vehicles[v].begun = 0;
         return;
@@ -71,7 +71,7 @@ pub fn root_of(board: &Board) -> Position
         clock: minute,
     };
     for (v, vehicle) in fleet.iter().enumerate() {
-        stand(&mut position, vehicle, v, vehicle.begun(), minute);
+        stand(&mut position, vehicle, v, minute);
     }
     position
 }

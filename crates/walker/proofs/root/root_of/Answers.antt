@@ -15,15 +15,10 @@ pub stand-requires-clause-past : goal.stand-requires-clause-past
 stand-requires-clause-past c =
     stands_past c.args.board.now _ _ _ _ c.vehicles-fleet.ensures.value c.loop-v-test.true c.index-fleet-v.is c.minute-minute.ensures.value
 
-pub stand-requires-clause-within : goal.stand-requires-clause-within
-stand-requires-clause-within c =
-    let w = c.index-fleet-v.result in
-    omega (arith, c.begun.ensures, prefix_len-le-length begun (steps_of w))
-
 pub loop-v-preserved : goal.loop-v-preserved
 loop-v-preserved c =
     stands_more c.args.board.now _ _ _ _ c.vehicles-fleet.ensures.value c.loop-v-test.true c.index-fleet-v.is c.minute-minute.ensures.value
-    _ _ _ c.begun.ensures c.loop-v.invariant c.stand.ensures.value
+    _ _ c.loop-v.invariant c.stand.ensures.value
 
 pub returns : goal.returns
 returns c =
