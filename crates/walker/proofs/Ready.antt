@@ -2,7 +2,9 @@
 use Rattle.std.proofs.Common.{get_or, ◌≡◌, ℕ, ◌+◌, ◌<◌, ◌≤◌, List, [], length, sym, refl, ap, ◌∙◌, inl, inr, add-one, arith}
 use Rattle.std.proofs.lemmas.Bool.{cases_lt}
 use Rattle.std.proofs.lemmas.List.{get_or_past, get_or_read}
-use Rattle.hall.specs.Log.{Log, next_step, vehicle_at, begin_of}
+use Rattle.std.proofs.lemmas.List.Sums.{prefix_len-le-length}
+use Rattle.hall.specs.declared.step.StepRecord.{StepRecord}
+use Rattle.hall.specs.Log.{Log, begun, next_step, vehicle_at, begin_of}
 use Rattle.hall.specs.Hall.{hall_log, fleet_of}
 use Rattle.hall.specs.declared.board.Board.{Board}
 use Rattle.hall.specs.View.{steps_of}
@@ -78,6 +80,10 @@ root_begun_within b p ro = record {
       omega arith;
   sized = ro.fits.vehicles;
 }
+
+-- no more steps are begun than there are
+pub begun_fits : (rs : List StepRecord) → next_step rs ≤ length rs
+begun_fits rs = prefix_len-le-length begun rs
 
 -- what is recorded of a vehicle is past
 all_past : (b : Board) (v : ℕ) → v < length (fleet_of b) → Past (hall_log b).minute (vehicle_in (fleet_of b) v)

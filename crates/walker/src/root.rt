@@ -42,6 +42,7 @@ fn runs_until(step: StepRecord, minute: u32) -> u32
 }
 
 // Adds vehicle `v` to the position.
+#[tactic(auto, using(crate::proofs::Ready::begun_fits))]
 fn stand(position: &mut Position, vehicle: &Vehicle, v: usize, minute: u32)
     requires past { Past minute vehicle.now }
     requires known { v < MOST_VEHICLES }

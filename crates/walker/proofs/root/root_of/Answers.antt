@@ -1,10 +1,5 @@
-use Rattle.std.proofs.Common.{◌≡◌, ◌<◌, length, sym, ap, ◌∙◌, subst, arith, refl}
-use Rattle.std.proofs.lemmas.List.{get_or_read_under}
-use Rattle.std.proofs.lemmas.List.Sums.{prefix_len-le-length}
-use Rattle.hall.specs.Log.{begun}
-use Rattle.hall.specs.View.{steps_of}
+use Rattle.std.proofs.Common.{◌≡◌, length, sym, ap, ◌∙◌, subst, arith}
 use Rattle.hall.specs.Hall.{hall_log, fleet_of}
-use Rattle.walker.specs.Moves.{no_vehicle, vehicle_in}
 use Rattle.walker.specs.Roots.{stood_upto}
 use Rattle.walker.specs.View.{RootOf}
 use Rattle.walker.proofs.Ready.{stands_past, stands_more}
