@@ -1,8 +1,10 @@
 -- What every board keeps, for the code of the walk.
-use Rattle.std.proofs.Common.{◌≡◌, ℕ, ◌+◌, ◌<◌, ◌≤◌, List, [], length, sym, refl, ap, ◌∙◌, inl, inr, add-one, arith}
+use Rattle.std.proofs.Common.{get_or, ◌≡◌, ℕ, ◌+◌, ◌<◌, ◌≤◌, List, [], length, sym, refl, ap, ◌∙◌, inl, inr, add-one, arith}
 use Rattle.std.proofs.lemmas.Bool.{cases_lt}
-use Rattle.std.proofs.lemmas.List.{get_or_past}
-use Rattle.hall.specs.Log.{Log, next_step, vehicle_at}
+use Rattle.std.proofs.lemmas.List.{get_or_past, get_or_read}
+use Rattle.std.proofs.lemmas.List.Sums.{prefix_len-le-length}
+use Rattle.hall.specs.declared.step.StepRecord.{StepRecord}
+use Rattle.hall.specs.Log.{Log, begun, next_step, vehicle_at, begin_of}
 use Rattle.hall.specs.Hall.{hall_log, fleet_of}
 use Rattle.hall.specs.declared.board.Board.{Board}
 use Rattle.hall.specs.View.{steps_of}
@@ -14,10 +16,10 @@ use Rattle.plans.proofs.Logs.{LogOk, log_ok}
 use Rattle.plans.proofs.Limits.{root_small}
 use Rattle.plans.proofs.Root.{root_within}
 use Rattle.walker.specs.declared.position.Position.{Position}
-use Rattle.walker.specs.Moves.{vehicle_in, RecordOk, FleetOk, Sane, BegunWithin}
-use Rattle.walker.specs.Roots.{stood, stood_upto}
+use Rattle.walker.specs.Moves.{no_vehicle, vehicle_in, RecordOk, FleetOk, Sane, BegunWithin}
+use Rattle.walker.specs.Roots.{Past, stood, stood_upto}
 use Rattle.walker.specs.View.{Tells, RootOf}
-use Rattle.walker.proofs.Views.{tells}
+use Rattle.walker.proofs.Views.{steps_told, tells}
 
 -- the laws of a board's log
 pub laws : (b : Board) → LogOk (hall_log b)
@@ -79,22 +81,44 @@ root_begun_within b p ro = record {
   sized = ro.fits.vehicles;
 }
 
--- one vehicle more, as the code has its record, its begun steps and the minute
-module _ (b : Board) (w : Vehicle) (minute begun v : ℕ) (known : v < length (fleet_of b)) (is : w ≡ vehicle_in (fleet_of b) v)
-    (now : minute ≡ (hall_log b).minute) (front : begun ≡ next_step (vehicle_at (hall_log b) v)) where
-  pub begun_fits : begun ≤ length (steps_of w)
-  unfolding begun_of
-  begun_fits =
-      let c = (tells b).counts v known in
-      let n = root_within (hall_log b) v in
-      let len = ap (λ (x : Vehicle). length (steps_of x)) is in
-      omega arith
+-- no more steps are begun than there are
+pub begun_fits : (rs : List StepRecord) → next_step rs ≤ length rs
+begun_fits rs = prefix_len-le-length begun rs
 
-  pub stands_more : (p q : Position) → p ≡ stood_upto (hall_log b) (fleet_of b) v → q ≡ stood minute w v begun p → q ≡ stood_upto (hall_log b) (fleet_of b) (v + 1)
+-- what is recorded of a vehicle is past
+all_past : (b : Board) (v : ℕ) → v < length (fleet_of b) → Past (hall_log b).minute (vehicle_in (fleet_of b) v)
+all_past b v h =
+    let t = tells b in
+    let ok = laws b in
+    record {
+      low = ok.now_small;
+      ok = (fleet_ok b).each v h;
+      begins = λ k l.
+          let e = ap begin_of (t.progress v k h l) in
+          let c = t.counts v h in
+          let a = t.all in
+          let p = ok.past v k (record { known = omega arith; within = omega arith }) in
+          let n = ok.now_small in
+          omega arith;
+    }
+
+-- one vehicle more, as the code reads its record from the vehicles, and the minute
+module _ (b : Board) (J : List Vehicle) (w : Vehicle) (minute v : ℕ) (all : J ≡ fleet_of b) (known : v < length J) (read : w ≡ get_or J v w)
+    (now : minute ≡ (hall_log b).minute) where
+  here : v < length (fleet_of b)
+  here = omega (arith, ap length all, known)
+
+  is : w ≡ vehicle_in (fleet_of b) v
+  is = get_or_read J v w known read no_vehicle ∙ ap (λ xs. vehicle_in xs v) all
+
+  pub stands_past : Past minute w
+  stands_past = rw now (rw is (all_past b v here))
+
+  pub stands_more : (p q : Position) → p ≡ stood_upto (hall_log b) (fleet_of b) v → q ≡ stood minute w v (next_step (steps_of w)) p → q ≡ stood_upto (hall_log b) (fleet_of b) (v + 1)
   unfolding begun_of
   stands_more p q e f =
-      f ∙ ap (λ m. stood m w v begun p) now
-      ∙ ap (λ x. stood (hall_log b).minute x v begun p) is
-      ∙ ap (λ k. stood (hall_log b).minute (vehicle_in (fleet_of b) v) v k p) front
+      f ∙ ap (λ m. stood m w v (next_step (steps_of w)) p) now
+      ∙ ap (λ x. stood (hall_log b).minute x v (next_step (steps_of x)) p) is
+      ∙ ap (λ r. stood (hall_log b).minute (vehicle_in (fleet_of b) v) v (next_step r) p) (sym (steps_told b v here))
       ∙ ap (stood (hall_log b).minute (vehicle_in (fleet_of b) v) v (next_step (vehicle_at (hall_log b) v))) e
       ∙ ap (stood_upto (hall_log b) (fleet_of b)) (sym (add-one v))

@@ -7,7 +7,7 @@ use Rattle.std.proofs.lemmas.Bool.{cases_eq, cases_lt}
 use Rattle.std.proofs.lemmas.List.{get_or_append_left, get_or-take, length-append, length-take-le, take_all, take-append-le, take-take}
 use Rattle.hall.specs.declared.vehicle.Vehicle.{Vehicle}
 use Rattle.plans.specs.declared.row.Row.{Row}
-use Rattle.walker.specs.declared.trail.Move.{Move}
+use Rattle.walker.specs.declared.position.Move.{Move}
 use Rattle.walker.specs.declared.trail.Frame.{Frame}
 use Rattle.walker.specs.declared.trail.Trail.{Trail}
 use Rattle.walker.specs.Moves.{Query, advanced, row_in, CanMove}

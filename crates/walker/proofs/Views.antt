@@ -3,7 +3,7 @@ use Rattle.std.proofs.Common.{option_map, option_to_list, ◌≡◌, ℕ, zero, 
 use mathlib.Core.Path.{fun_ext}
 use Rattle.std.proofs.lemmas.Bool.{cases_eq, cases_lt, cond-true, cond-false, lt-ltb, le-ltb}
 use Rattle.std.proofs.lemmas.List.{get_or-set_same, get_or-set_other, append-nil, append_assoc, map-append, get_or-map, length-map}
-use Rattle.hall.specs.Log.{Log, blank}
+use Rattle.hall.specs.Log.{Log, blank, vehicle_at}
 use Rattle.hall.specs.View.{steps_of}
 use Rattle.hall.specs.Hall.{hall_log, fleet_of}
 use Rattle.hall.specs.declared.board.Board.{Board}
@@ -44,19 +44,20 @@ pub same_place : (a a' b b' s s' : ℕ → ℕ) (c c' : ℕ) (rs rs' : List Row)
 same_place a a' b b' s s' c c' rs rs' e f g h i =
     ap (λ x. place x b s c rs) e ∙ ap (λ x. place a' x s c rs) f ∙ ap (λ x. place a' b' x c rs) g ∙ ap (λ x. place a' b' s' x rs) h ∙ ap (λ x. place a' b' s' c' x) i
 
+-- a vehicle's record has the log's steps
+pub steps_told : (b : Board) (v : ℕ) → v < length (fleet_of b) → vehicle_at (hall_log b) v ≡ steps_of (vehicle_in (fleet_of b) v)
+steps_told b v h = get_or-map steps_of (fleet_of b) v no_vehicle [] h
+
 -- a board's records tell its log
 pub tells : (b : Board) → Tells (hall_log b) (fleet_of b)
 unfolding fleet count station_of length_of progress_of
 tells b = record {
   all = length-map (fleet_of b) steps_of;
-  counts = λ v h. ap length (row v h);
-  stations = λ v k h l. ap (λ ss. (get_or ss k blank).station) (row v h);
-  lengths = λ v k h l. ap (λ ss. (get_or ss k blank).length) (row v h);
-  progress = λ v k h l. ap (λ ss. (get_or ss k blank).progress) (row v h);
+  counts = λ v h. ap length (steps_told b v h);
+  stations = λ v k h l. ap (λ ss. (get_or ss k blank).station) (steps_told b v h);
+  lengths = λ v k h l. ap (λ ss. (get_or ss k blank).length) (steps_told b v h);
+  progress = λ v k h l. ap (λ ss. (get_or ss k blank).progress) (steps_told b v h);
 }
-  where
-    row : (v : ℕ) → v < length (fleet_of b) → get_or (map steps_of (fleet_of b)) v [] ≡ steps_of (vehicle_in (fleet_of b) v)
-    row v h = get_or-map steps_of (fleet_of b) v no_vehicle [] h
 
 module _ (L : Log) (J : List Vehicle) (t : Tells L J) (p : Position) (rs : List Row) where
   abbrev P : Place

@@ -3,7 +3,7 @@ use Rattle.std.specs.Prelude.{◌≡◌, ℕ, zero, suc, ◌+◌, ◌-◌, ◌<�
 use Rattle.hall.specs.declared.vehicle.Vehicle.{Vehicle}
 use Rattle.plans.specs.declared.row.Row.{Row}
 use Rattle.walker.specs.declared.position.Position.{Position}
-use Rattle.walker.specs.declared.trail.Move.{Move}
+use Rattle.walker.specs.declared.position.Move.{Move}
 use Rattle.walker.specs.declared.trail.Frame.{Frame}
 use Rattle.walker.specs.declared.trail.Trail.{Trail}
 use Rattle.walker.specs.Moves.{Query, advanced, row_in, begin_in, CanMove, Sane, steps_left}
@@ -70,11 +70,15 @@ pub record Pushed (J : List Vehicle) (m : Move) (s t : Trail) : Type 0 where
   pub path : t.path.items ≡ s.path.items ++ row_in J (top_of s).at m.vehicle m.begin ∷ []
   pub steps : t.steps ≡ s.steps
 
--- t is the trail s with the children of its top frame due
-pub record Opened (s t : Trail) : Type 0 where
-  pub frames : t.frames.items ≡ slice_set s.frames.items (length s.frames.items - 1) (record { at = (top_of s).at; next = 0 })
+-- t is the trail s with v as the next vehicle to move from its top frame
+pub record Turned (v : ℕ) (s t : Trail) : Type 0 where
+  pub frames : t.frames.items ≡ slice_set s.frames.items (length s.frames.items - 1) (record { at = (top_of s).at; next = v })
   pub path : t.path.items ≡ s.path.items
   pub steps : t.steps ≡ s.steps
+
+-- t is the trail s with the children of its top frame due
+abbrev pub Opened : Trail → Trail → Type 0
+Opened s t = Turned 0 s t
 
 -- t is the trail s without its top frame and the row that led to it
 pub record Popped (s t : Trail) : Type 0 where

@@ -8,12 +8,15 @@ ghost use Rattle.walker.specs.Moves.{FleetOk, RecordOk, Sane, BegunWithin, CanMo
 ghost use Rattle.walker.specs.Bounds.{total_length, finish_by, finish_in};
 
 use crate::setting::Setting;
-use goals::{Goal, score_of};
+use goals::{Goal, MOST_VEHICLES, score_of};
 use hall::step::StepRecord;
 use hall::vehicle::Vehicle;
 use hours::{Hours, least_begin};
 use plans::row::Row;
 use short::Short;
+
+// The most stations that a hall has.
+pub const MOST_STATIONS: usize = 16;
 
 // Where a vehicle stands: how many of its steps are begun, and the minute from which it is free.
 #[derive(Clone, Copy)]
@@ -25,9 +28,17 @@ pub struct Standing {
 // Where each vehicle stands, for each station the minute from which it is free, and the clock.
 #[derive(Clone, Copy)]
 pub struct Position {
-    pub vehicles: [Standing; 24],
-    pub stations: [u32; 16],
+    pub vehicles: [Standing; MOST_VEHICLES],
+    pub stations: [u32; MOST_STATIONS],
     pub clock: u32,
+}
+
+// A vehicle's next step and its begin. That the move can be made (`CanMove`) is a fact of the move, the position and the
+// vehicles together, so it is asked where the three meet.
+#[derive(Clone, Copy)]
+pub struct Move {
+    pub vehicle: usize,
+    pub begin: u32,
 }
 
 // The lengths of the steps together.
@@ -54,40 +65,40 @@ impl Position {
     }
 
     // Begins the vehicle's next step.
-    pub fn advance(&mut self, fleet: &[Vehicle], v: usize, begin: u32)
-        requires { CanMove fleet.now self.old v begin }
-        ensures value { self.new ≡ advanced fleet.now self.old v begin }
+    pub fn advance(&mut self, fleet: &[Vehicle], m: Move)
+        requires { CanMove fleet.now self.old m.vehicle m.begin }
+        ensures value { self.new ≡ advanced fleet.now self.old m.vehicle m.begin }
     {
-        let k = self.vehicles[v].begun;
-        let step = fleet[v].steps.as_slice()[k];
-        let end = begin + step.length;
-        self.vehicles[v] = Standing {
+        let k = self.vehicles[m.vehicle].begun;
+        let step = fleet[m.vehicle].steps.as_slice()[k];
+        let end = m.begin + step.length;
+        self.vehicles[m.vehicle] = Standing {
             begun: k + 1,
             free: end,
         };
         self.stations[step.station as usize] = end;
-        self.clock = begin;
+        self.clock = m.begin;
     }
 
     // The row of the vehicle's next step. A row has numbers of 32 bits, and the vehicle's is below 24, the step's below 8.
-    pub fn row(&self, fleet: &[Vehicle], v: usize, begin: u32) -> Row
-        requires { CanMove fleet.now self.now v begin }
-        ensures value { result ≡ row_in fleet.now self.now v begin }
+    pub fn row(&self, fleet: &[Vehicle], m: Move) -> Row
+        requires { CanMove fleet.now self.now m.vehicle m.begin }
+        ensures value { result ≡ row_in fleet.now self.now m.vehicle m.begin }
     {
-        let k = self.vehicles[v].begun;
-        let step = fleet[v].steps.as_slice()[k];
+        let k = self.vehicles[m.vehicle].begun;
+        let step = fleet[m.vehicle].steps.as_slice()[k];
         Row {
-            vehicle: v as u32,
+            vehicle: m.vehicle as u32,
             step: k as u32,
             station: step.station,
-            begin,
-            end: begin + step.length,
+            begin: m.begin,
+            end: m.begin + step.length,
         }
     }
 
     // The least minute at which the vehicle can finish.
     fn finish_of(&self, vehicle: &Vehicle, v: usize) -> u32
-        requires known { v < 24 }
+        requires known { v < MOST_VEHICLES }
         requires record { RecordOk vehicle.now }
         requires sane { Sane self.now }
         ensures value { result ≡ finish_by vehicle.now self.now v }
@@ -109,7 +120,7 @@ impl Position {
             ≡ scored (G.Goal.adding by.now.goal.now) (G.Goal.starting by.now.goal.now)
             (map (finish_in by.now.fleet.now self.now) (range_with_len 0 (length by.now.fleet.now))) }
     {
-        let mut finishes: Short<u32, 24> = Short::empty(0);
+        let mut finishes: Short<u32, MOST_VEHICLES> = Short::empty(0);
         for (v, vehicle) in by.fleet.iter().enumerate() {
             finishes.push(self.finish_of(vehicle, v));
         }

@@ -1,6 +1,6 @@
 // The root position of a board.
 ghost use Rattle.std.specs.Prelude.{◌≡◌, ◌<◌, ◌≤◌, length};
-ghost use Rattle.hall.specs.Log.{begin_of};
+ghost use Rattle.hall.specs.Log.{begin_of, next_step};
 ghost use Rattle.hall.specs.Hall.{hall_log, fleet_of};
 ghost use Rattle.hall.specs.View.{steps_of};
 ghost use Rattle.plans.specs.Plan.{end_by};
@@ -8,13 +8,14 @@ ghost use Rattle.plans.specs.Position.{runs_until};
 ghost use Rattle.walker.specs.Roots.{stood, Past};
 ghost use Rattle.walker.specs.View.{RootOf};
 
-use crate::position::{Position, Standing};
+use crate::position::{MOST_STATIONS, Position, Standing};
+use goals::MOST_VEHICLES;
 use hall::board::Board;
 use hall::step::{Progress, StepRecord};
 use hall::vehicle::Vehicle;
 
-// A begun step's end: recorded, or the later of now and begin plus length. It is asked of begun steps alone; of others it is 0,
-// as in `end_by`.
+// A begun step's end: recorded, or the later of now and begin plus length. It is asked of begun steps alone; of others it is
+// 0, as in `end_by`.
 fn end_of(step: StepRecord, minute: u32) -> u32
     requires begin { begin_of step.progress ≤ 1000000 }
     requires length { step.length ≤ 1440 }
@@ -40,13 +41,14 @@ fn runs_until(step: StepRecord, minute: u32) -> u32
     }
 }
 
-// Adds vehicle `v`, of whose steps `begun` are begun, to the position.
-fn stand(position: &mut Position, vehicle: &Vehicle, v: usize, begun: usize, minute: u32)
+// Adds vehicle `v` to the position.
+#[tactic(auto, using(crate::proofs::Ready::begun_fits))]
+fn stand(position: &mut Position, vehicle: &Vehicle, v: usize, minute: u32)
     requires past { Past minute vehicle.now }
-    requires known { v < 24 }
-    requires within { begun ≤ length (steps_of vehicle.now) }
-    ensures value { position.new ≡ stood minute vehicle.now v begun position.old }
+    requires known { v < MOST_VEHICLES }
+    ensures value { position.new ≡ stood minute vehicle.now v (next_step (steps_of vehicle.now)) position.old }
 {
+    let begun = vehicle.begun();
     if begun == 0 {
         position.vehicles[v].begun = 0;
         return;
@@ -65,13 +67,12 @@ pub fn root_of(board: &Board) -> Position
     let minute = board.minute();
     let fleet = board.vehicles();
     let mut position = Position {
-        vehicles: [Standing { begun: 0, free: 0 }; 24],
-        stations: [0; 16],
+        vehicles: [Standing { begun: 0, free: 0 }; MOST_VEHICLES],
+        stations: [0; MOST_STATIONS],
         clock: minute,
     };
-    // `v` is below 24, and the board takes a vehicle's number as `u32`
     for (v, vehicle) in fleet.iter().enumerate() {
-        stand(&mut position, vehicle, v, board.begun(v as u32), minute);
+        stand(&mut position, vehicle, v, minute);
     }
     position
 }

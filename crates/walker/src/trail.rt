@@ -2,21 +2,21 @@
 ghost use Rattle.std.specs.Prelude.{◌≡◌, ◌<◌, length};
 ghost use Rattle.plans.specs.Meanings.{hours_of};
 ghost use Rattle.walker.specs.Moves.{CanMove};
-ghost use Rattle.walker.specs.Trail.{Found, TrailOk, Pushed, Opened, Popped, due_left, due_of, top_of};
+ghost use Rattle.walker.specs.Trail.{Found, TrailOk, Turned, Pushed, Opened, Popped, due_left, due_of, top_of};
 
-use crate::position::Position;
+use crate::position::{Move, Position};
 use crate::setting::Setting;
-use hall::vehicle::Vehicle;
+use goals::MOST_VEHICLES;
+use hall::vehicle::{MOST_STEPS, Vehicle};
 use hours::Hours;
 use plans::row::Row;
 use short::Short;
 
-// A vehicle's next step and its begin.
-#[derive(Clone, Copy)]
-pub struct Move {
-    pub vehicle: usize,
-    pub begin: u32,
-}
+// The most rows of a plan: one for each step of each vehicle.
+pub const MOST_ROWS: usize = MOST_VEHICLES * MOST_STEPS;
+
+// The most frames of a trail: the root's, and one for each row.
+pub const MOST_FRAMES: usize = MOST_ROWS + 1;
 
 // A position and the next vehicle to move from it.
 #[derive(Clone, Copy)]
@@ -26,11 +26,11 @@ pub struct Frame {
 }
 
 // The frames lead from the root: the last of them is due, those before it are visited. The path has the row of each move.
-// At the root `steps` are to begin, at most the 192 of a hall.
+// At the root `steps` are to begin, at most `MOST_ROWS`.
 #[derive(Clone, Copy)]
 pub struct Trail {
-    pub frames: Short<Frame, 193>,
-    pub path: Short<Row, 192>,
+    pub frames: Short<Frame, MOST_FRAMES>,
+    pub path: Short<Row, MOST_ROWS>,
     pub steps: usize,
 }
 
@@ -49,6 +49,7 @@ impl Frame {
     }
 }
 
+// That a top frame is there is asked by each that needs one: the caller has just seen it, and an `Option` would hide that.
 impl Trail {
     // The top frame.
     pub fn top(&self) -> Frame
@@ -59,25 +60,28 @@ impl Trail {
         frames[frames.len() - 1]
     }
 
+    // Makes `next` the next vehicle to move from the top frame.
+    fn turn_to(&mut self, next: usize)
+        requires { 0 < length self.old.frames.items }
+        ensures value { Turned next self.old self.new }
+    {
+        let at = self.top().at;
+        let d = self.frames.as_slice().len() - 1;
+        self.frames.set(d, Frame { at, next });
+    }
+
     // Makes the move from the top frame.
     fn push(&mut self, fleet: &[Vehicle], m: Move)
         requires some { 0 < length self.old.frames.items }
-        requires frames { length self.old.frames.items < 193 }
-        requires path { length self.old.path.items < 192 }
+        requires frames { length self.old.frames.items < MOST_FRAMES }
+        requires path { length self.old.path.items < MOST_ROWS }
         requires can { CanMove fleet.now (top_of self.old).at m.vehicle m.begin }
         ensures value { Pushed fleet.now m self.old self.new }
     {
         let mut at = self.top().at;
-        let d = self.frames.as_slice().len() - 1;
-        self.frames.set(
-            d,
-            Frame {
-                at,
-                next: m.vehicle + 1,
-            },
-        );
-        self.path.push(at.row(fleet, m.vehicle, m.begin));
-        at.advance(fleet, m.vehicle, m.begin);
+        self.turn_to(m.vehicle + 1);
+        self.path.push(at.row(fleet, m));
+        at.advance(fleet, m);
         self.frames.push(Frame { at, next: 0 });
     }
 
@@ -86,9 +90,7 @@ impl Trail {
         requires { 0 < length self.old.frames.items }
         ensures value { Opened self.old self.new }
     {
-        let at = self.top().at;
-        let d = self.frames.as_slice().len() - 1;
-        self.frames.set(d, Frame { at, next: 0 });
+        self.turn_to(0);
     }
 
     // Lets the top frame go, with the row that led to it.

@@ -7,7 +7,7 @@ ghost use Rattle.walker.specs.Visits.{WalkerOk, held_in, score_held, stage_of, s
 ghost use Rattle.walker.specs.Answers.{outcome_in, written_by};
 
 use crate::setting::Setting;
-use crate::trail::Trail;
+use crate::trail::{MOST_ROWS, Trail};
 use goals::Goal;
 use hours::Hours;
 use plans::answer::Outcome;
@@ -18,10 +18,11 @@ use short::Short;
 #[derive(Clone, Copy)]
 pub struct ScoredPlan<S> {
     pub score: S,
-    pub rows: Short<Row, 192>,
+    pub rows: Short<Row, MOST_ROWS>,
 }
 
-// The trail to the next position, the best plan so far, and the visits made.
+// The trail to the next position, the best plan so far, and the visits made. What is kept of it (`WalkerOk`) is about the
+// vehicles too, which it does not hold: the search, which holds both, is to keep it.
 #[derive(Clone, Copy)]
 pub struct Walker<S> {
     pub trail: Trail,
@@ -30,7 +31,8 @@ pub struct Walker<S> {
 }
 
 impl<S: Copy> Walker<S> {
-    // Whether a plan is held whose score is no worse than `bound`.
+    // Whether a plan is held whose score is no worse than `bound`: as `Held::beats` of `walk`, but of a plan, which has its
+    // rows beside its score.
     fn beats<G: Goal<Score = S>>(&self, goal: &G, bound: S) -> bool
         ensures value { result ≡ beats (G.Goal.no_worse goal.now) (score_held (held_in self.now)) bound }
     {

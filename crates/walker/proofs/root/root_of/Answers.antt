@@ -1,31 +1,19 @@
-use Rattle.std.proofs.Common.{◌≡◌, ◌<◌, length, sym, ap, ◌∙◌, subst, arith, refl}
-use Rattle.std.proofs.lemmas.List.{get_or_read_under}
+use Rattle.std.proofs.Common.{◌≡◌, length, sym, ap, ◌∙◌, subst, arith}
 use Rattle.hall.specs.Hall.{hall_log, fleet_of}
-use Rattle.walker.specs.Moves.{no_vehicle, vehicle_in}
 use Rattle.walker.specs.Roots.{stood_upto}
 use Rattle.walker.specs.View.{RootOf}
-use Rattle.walker.proofs.Ready.{begun_fits, stands_more}
+use Rattle.walker.proofs.Ready.{stands_past, stands_more}
 use Rattle.walker.proofs.Rooted.{rooted}
 use Rattle.walker.proofs.root.root_of.Goals as goal
 
-pub stand-requires-clause-within : goal.stand-requires-clause-within
-stand-requires-clause-within c =
-    let b = c.args.board.now in
-    let v = c.loop-v.v in
-    let all = c.vehicles-fleet.ensures.value in
-    let known : v < length (fleet_of b) = omega (arith, ap length all, c.loop-v-test.true) in
-    let at = get_or_read_under c.vehicles-fleet.result.now v _ c.index-fleet-v.result no_vehicle c.index-fleet-v.is c.loop-v-test.true refl ∙ ap (λ J. vehicle_in J v) all in
-    begun_fits b _ _ _ v known at c.minute-minute.ensures.value c.begun.ensures.value
+pub stand-requires-clause-past : goal.stand-requires-clause-past
+stand-requires-clause-past c =
+    stands_past c.args.board.now _ _ _ _ c.vehicles-fleet.ensures.value c.loop-v-test.true c.index-fleet-v.is c.minute-minute.ensures.value
 
 pub loop-v-preserved : goal.loop-v-preserved
 loop-v-preserved c =
-    let b = c.args.board.now in
-    let v = c.loop-v.v in
-    let all = c.vehicles-fleet.ensures.value in
-    let known : v < length (fleet_of b) = omega (arith, ap length all, c.loop-v-test.true) in
-    let at = get_or_read_under c.vehicles-fleet.result.now v _ c.index-fleet-v.result no_vehicle c.index-fleet-v.is c.loop-v-test.true refl ∙ ap (λ J. vehicle_in J v) all in
-    stands_more b _ _ _ v known at c.minute-minute.ensures.value c.begun.ensures.value
-    c.loop-v.position _ c.loop-v.invariant c.stand.ensures.value
+    stands_more c.args.board.now _ _ _ _ c.vehicles-fleet.ensures.value c.loop-v-test.true c.index-fleet-v.is c.minute-minute.ensures.value
+    _ _ c.loop-v.invariant c.stand.ensures.value
 
 pub returns : goal.returns
 returns c =
