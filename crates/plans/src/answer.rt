@@ -2,8 +2,8 @@
 ghost use Rattle.std.specs.Prelude.{◌≡◌};
 ghost use Rattle.plans.specs.Outcomes.{number_of, score_in, refusal_of};
 
-// How the search stands: ended with a best plan or without any plan, or not ended, with a plan so far or without one. The
-// rules number these four outcomes, so it is an enum of four cases and no flag with an `Option` beside it.
+// How the search stands: ended with a best plan or without any plan, or not ended, with a plan so far or without one. Each
+// of the four has a number of its own, so it is an enum of four cases and no flag with an `Option` beside it.
 #[derive(Clone, Copy, Debug, PartialEq, Eq)]
 pub enum Outcome<S> {
     Best(S),
