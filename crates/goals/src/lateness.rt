@@ -8,7 +8,7 @@ ghost use Rattle.std.proofs.Common.{rules};
 use crate::fault::GoalFault;
 use crate::{Goal, MOST_VEHICLES};
 
-// The last minute that may be due.
+// The last minute that may be due. It is that of the hours too, which goals know nothing of.
 pub const LAST_DUE: u32 = 2_000_000;
 
 // The greatest of finish minus due minute over the vehicles, absent where there is none; less is better, and absent is no

@@ -6,7 +6,7 @@ ghost use Rattle.goals.specs.ScoresLemmas.{latest_monotone};
 
 use crate::Goal;
 
-// The greatest finish, 0 where there is none; less is better.
+// The greatest finish, 0 where there is none, as the rules fix; less is better.
 #[derive(Clone, Copy)]
 pub struct LatestFinish;
 

@@ -12,7 +12,8 @@ pub(crate) const MOST_VEHICLES: usize = 24;
 
 // The first `count` records of the table are the vehicles in the hall, and `minute` is now. The table is a plain array of
 // vehicle records, by the project's rules, and begin and finish lend one record of it in place. What every board keeps,
-// whatever was called on it, is stated by the ghost fields: `few` of the table, `lasting` in the words of the hall.
+// whatever was called on it, is stated by the ghost fields: `lasting` in the words of the hall, `few` of the table, without
+// which the check does not show that the slice of the first `count` records is in range.
 #[derive(Clone, Copy)]
 pub struct Board {
     vehicles: [Vehicle; MOST_VEHICLES],

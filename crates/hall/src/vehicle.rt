@@ -42,7 +42,8 @@ impl Vehicle {
         self.next().unwrap_or(self.steps.as_slice().len())
     }
 
-    // The number of the running step, where one runs: a chain as that of `next`, of another progress.
+    // The number of the running step, where one runs: a chain as that of `next`, of another progress; a function of both would
+    // take the test as a closure.
     pub(crate) fn running(&self) -> Option<usize>
         ensures { result ≡ position (λ r. running r.progress) (steps_of self.now) }
     {
@@ -106,7 +107,8 @@ impl Vehicle {
     }
 }
 
-// The first fault of a booking's steps, if any.
+// The first fault of a booking's steps, if any. The loop is the recursion of `step_fault`, one step a turn, and may name its
+// number in the fault.
 pub(crate) fn step_fault(steps: &[Step]) -> Result<(), BoardFault>
     requires { length steps.now ≤ 8 }
     ensures { result ≡ unless (step_fault 0 steps.now) tt }

@@ -3,13 +3,14 @@
 #![tactic(auto)]
 
 use replaying::replay;
+use sheet::run::lines::MOST_BYTES;
 use std::io;
 use std::io::{Read, Write};
 
 mod replaying;
 
 // One byte more than a sheet may have, so that a longer one is refused.
-const MOST_READ: u64 = 60_001;
+const MOST_READ: u64 = MOST_BYTES as u64 + 1;
 
 fn main(rt: HostRuntime) -> io::Result<()> {
     let mut text = Vec::new(rt.alloc());

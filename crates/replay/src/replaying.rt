@@ -40,6 +40,7 @@ fn add<P: Printed>(shown: &mut Vec<u8>, printed: &P) -> Result<(), AllocError>
     requires { P.most ≤ 128 }
     ensures { OnOk result (shown.new.items ≡ shown.old.items ++ P.text printed.now) }
 {
+    // lent to the printer, as a console lends its own; what is behind the line is not shown
     let mut place = [0u8; LINE_BYTES];
     let Ok(n) = printed.print(&mut place) else {
         unreachable()

@@ -42,7 +42,7 @@ pub enum Layer {
 }
 
 // What is told of a fault, as it is printed: five numbers, of which a spot would be two. The rules number refusals, over all
-// layers.
+// layers, of which the cases are those of the fault types; and they say 0 of no line, no field and no offset.
 #[derive(Clone, Copy, Debug, PartialEq, Eq)]
 pub struct FaultReport {
     pub line: usize,

@@ -37,7 +37,7 @@ impl TryFrom<&[u8]> for Kind {
 }
 
 impl Kind {
-    // The letter that names the kind.
+    // The letter that names the kind: as a discriminant it would be read as a number.
     pub fn letter(self) -> u8
         ensures value { result ≡ letter_of self }
         ensures names { letter result ≡ Some self }

@@ -15,7 +15,7 @@ use text::number::{NumberFault, read_minutes, read_number};
 const TAB: u8 = b'\t';
 
 // The most numbers behind the kind of a line: two for each step of a vehicle.
-const MOST_NUMBERS: usize = 16;
+const MOST_NUMBERS: usize = 2 * MOST_STEPS;
 
 // A call of the board with its arguments.
 #[derive(Clone, Copy)]
@@ -40,7 +40,7 @@ impl Request {
     }
 }
 
-// The byte offset of a field in its line; past the last field, where the line ends.
+// The byte offset of a field in its line; past the last field, where the line ends, so that there is always an answer.
 pub(crate) fn offset(line: &[u8], field: usize) -> usize
     ensures { result ≡ offset_of (parted 9 line.now) field }
 {

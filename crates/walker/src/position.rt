@@ -11,12 +11,13 @@ use crate::setting::Setting;
 use goals::{Goal, MOST_VEHICLES, score_of};
 use hall::step::StepRecord;
 use hall::vehicle::Vehicle;
+use hours::limits::LAST_STATION;
 use hours::{Hours, least_begin};
 use plans::row::Row;
 use short::Short;
 
 // The most stations that a hall has.
-pub const MOST_STATIONS: usize = 16;
+pub const MOST_STATIONS: usize = LAST_STATION as usize + 1;
 
 // Where a vehicle stands: how many of its steps are begun, and the minute from which it is free.
 #[derive(Clone, Copy)]
@@ -128,7 +129,8 @@ impl Position {
     }
 
     // The steps that the vehicles have left. The loop is the recursion of `steps_left`, one vehicle a turn; a sum over pairs
-    // of vehicle and standing leaves open that no difference is below 0.
+    // of vehicle and standing leaves open that no difference is below 0. It is asked of a board's vehicles, before there is a
+    // setting that keeps `fleet`.
     pub fn steps_left(&self, fleet: &[Vehicle]) -> usize
         requires fleet { FleetOk fleet.now }
         requires begun { BegunWithin fleet.now self.now }

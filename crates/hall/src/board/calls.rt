@@ -67,6 +67,7 @@ impl Board {
         if self.count >= MOST_VEHICLES {
             return Err(BoardFault::BoardFull);
         }
+        // two tests, since with `contains` on the length the check finds no answer here
         if steps.is_empty() || steps.len() > MOST_STEPS {
             return Err(BoardFault::StepCount);
         }

@@ -14,7 +14,7 @@ use text::bytes::find;
 const NEWLINE: u8 = b'\n';
 
 // The most bytes that a sheet has.
-const MOST_BYTES: usize = 60_000;
+pub const MOST_BYTES: usize = 60_000;
 
 impl Cursor {
     // A cursor at the first line of `text`.
