@@ -1,7 +1,7 @@
 -- Writes into a line, one after another.
-use Rattle.std.proofs.Common.{◌≡◌, ℕ, ◌+◌, ◌≤◌, List, [], ◌++◌, length, sym, refl, ap, ◌∙◌, arith}
+use Rattle.std.proofs.Common.{◌≡◌, ℕ, ◌+◌, ◌<◌, ◌≤◌, List, [], ◌∷◌, ◌++◌, length, take, drop, slice_set, sym, refl, ap, ◌∙◌, add-one, arith}
 use Rattle.std.proofs.Math.Seq.{paste}
-use Rattle.std.proofs.lemmas.List.{length-append}
+use Rattle.std.proofs.lemmas.List.{length-append, set_split, take-append-drop}
 use Rattle.std.proofs.lemmas.List.Edits.{paste_none, paste_all, paste-paste, length-paste}
 use Rattle.text.specs.declared.cells.Line.{Line}
 use Rattle.text.specs.Print.{put_at, HasRoom, Puts}
@@ -10,6 +10,17 @@ use Rattle.text.specs.Print.{put_at, HasRoom, Puts}
 pub put_at-is-paste : (xs : List ℕ) (at : ℕ) (bs : List ℕ) → put_at xs at bs ≡ paste xs at bs (length bs)
 unfolding put_at
 put_at-is-paste xs at bs = sym (paste_all xs at bs (length bs) refl)
+
+-- a write of one byte
+pub put_at_one : (xs : List ℕ) (at b : ℕ) → at < length xs → slice_set xs at b ≡ put_at xs at (b ∷ [])
+unfolding put_at
+put_at_one xs at b h = set_split xs at b h ∙ ap (λ n. take at xs ++ b ∷ drop n xs) (sym (add-one at))
+
+-- a list that is the bytes from `at` on, with what stood behind them, and the same before
+pub put_at_parts : (xs o : List ℕ) (at end : ℕ) (bs : List ℕ) → at + length bs ≡ end → drop at o ≡ bs ++ drop end xs → take at o ≡ take at xs → o ≡ put_at xs at bs
+unfolding put_at
+put_at_parts xs o at end bs e back front =
+    sym (take-append-drop at o) ∙ ap (λ l. l ++ drop at o) front ∙ ap (λ l. take at xs ++ l) (back ∙ ap (λ n. bs ++ drop n xs) (sym e))
 
 -- two writes, the second where the first ended
 put_at_more : (xs : List ℕ) (at : ℕ) (bs cs : List ℕ) → at ≤ length xs → put_at (put_at xs at bs) (at + length bs) cs ≡ put_at xs at (bs ++ cs)
