@@ -56,8 +56,10 @@ impl<T: Copy, const N: usize> Short<T, N> {
         requires { length self.old.items < N }
         ensures items { self.new.items ≡ self.old.items ++ item ∷ [] }
     {
-        self.places[self.len] = item;
-        self.len += 1;
+        // the length is read once, before the write of which a compiler can't tell that it leaves the length
+        let len = self.len;
+        self.places[len] = item;
+        self.len = len + 1;
     }
 
     // Writes an item in the place of another.

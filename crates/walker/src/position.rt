@@ -22,7 +22,7 @@ pub const MOST_STATIONS: usize = LAST_STATION as usize + 1;
 // Where a vehicle stands: how many of its steps are begun, and the minute from which it is free.
 #[derive(Clone, Copy)]
 pub struct Standing {
-    pub begun: usize,
+    pub begun: u32,
     pub free: u32,
 }
 
@@ -59,7 +59,7 @@ impl Position {
             ≡ begin_in (hours_of (H.Hours.permits by.now.hours.now)).earliest by.now.fleet.now self.now v }
     {
         let standing = self.vehicles[v];
-        let step = by.fleet[v].steps.as_slice().get(standing.begun)?;
+        let step = by.fleet[v].steps.as_slice().get(standing.begun as usize)?;
         let free = self.stations[step.station as usize];
         let from = self.clock.max(standing.free).max(free);
         least_begin(by.hours, step.station, from, step.length)
@@ -71,7 +71,7 @@ impl Position {
         ensures value { self.new ≡ advanced fleet.now self.old m.vehicle m.begin }
     {
         let k = self.vehicles[m.vehicle].begun;
-        let step = fleet[m.vehicle].steps.as_slice()[k];
+        let step = fleet[m.vehicle].steps.as_slice()[k as usize];
         let end = m.begin + step.length;
         self.vehicles[m.vehicle] = Standing {
             begun: k + 1,
@@ -81,16 +81,16 @@ impl Position {
         self.clock = m.begin;
     }
 
-    // The row of the vehicle's next step. A row has numbers of 32 bits, and the vehicle's is below 24, the step's below 8.
+    // The row of the vehicle's next step. A row has numbers of 32 bits, and the vehicle's is below 24.
     pub fn row(&self, fleet: &[Vehicle], m: Move) -> Row
         requires { CanMove fleet.now self.now m.vehicle m.begin }
         ensures value { result ≡ row_in fleet.now self.now m.vehicle m.begin }
     {
         let k = self.vehicles[m.vehicle].begun;
-        let step = fleet[m.vehicle].steps.as_slice()[k];
+        let step = fleet[m.vehicle].steps.as_slice()[k as usize];
         Row {
             vehicle: m.vehicle as u32,
-            step: k as u32,
+            step: k,
             station: step.station,
             begin: m.begin,
             end: m.begin + step.length,
@@ -107,8 +107,9 @@ impl Position {
     {
         let standing = self.vehicles[v];
         let steps = vehicle.steps.as_slice();
-        if standing.begun < steps.len() {
-            self.clock.max(standing.free) + total_length(&steps[standing.begun..])
+        let begun = standing.begun as usize;
+        if begun < steps.len() {
+            self.clock.max(standing.free) + total_length(&steps[begun..])
         } else {
             standing.free
         }
@@ -138,7 +139,7 @@ impl Position {
     {
         let mut sum: usize = 0;
         for (v, vehicle) in fleet.iter().enumerate() {
-            sum += vehicle.steps.as_slice().len() - self.vehicles[v].begun;
+            sum += vehicle.steps.as_slice().len() - self.vehicles[v].begun as usize;
         }
         sum
     }

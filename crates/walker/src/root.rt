@@ -56,6 +56,7 @@ fn stand(position: &mut Position, vehicle: &Vehicle, v: usize, minute: u32)
     let step = vehicle.steps.as_slice()[begun - 1];
     let station = step.station as usize;
     let free = end_of(step, minute);
+    let begun = begun as u32;
     position.vehicles[v] = Standing { begun, free };
     position.stations[station] = position.stations[station].max(runs_until(step, minute));
 }

@@ -52,12 +52,12 @@ impl Frame {
 // That a top frame is there is asked by each that needs one: the caller has just seen it, and an `Option` would hide that.
 impl Trail {
     // The top frame.
-    pub fn top(&self) -> Frame
+    pub fn top(&self) -> &Frame
         requires { 0 < length self.now.frames.items }
-        ensures value { result ≡ top_of self.now }
+        ensures value { result.now ≡ top_of self.now }
     {
         let frames = self.frames.as_slice();
-        frames[frames.len() - 1]
+        &frames[frames.len() - 1]
     }
 
     // Makes `next` the next vehicle to move from the top frame.
