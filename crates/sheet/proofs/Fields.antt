@@ -1,21 +1,21 @@
 -- Laws of the fields of a line: how the library's `split` gives them, their offsets and values.
-use Rattle.std.proofs.Common.{◌≡◌, ℕ, zero, suc, ◌+◌, ◌-◌, ◌<◌, ◌≤◌, min, Bool, true, false, cond, eqb, List, [], ◌∷◌, ◌++◌, length, get_or, take, drop, Some, None, Ok, Err, Option, Result, sym, refl, ap, ◌∙◌, append_assoc, append-nil, add-one, arith, map}
+use Rattle.std.proofs.Common.{◌≡◌, ℕ, zero, suc, ◌+◌, ◌-◌, ◌<◌, ◌≤◌, min, Bool, true, false, cond, eqb, List, [], ◌∷◌, ◌++◌, length, get_or, take, drop, Some, None, Ok, Err, Option, Result, sym, refl, ap, subst, ◌∙◌, ⊎_elim, append_assoc, append-nil, add-one, arith, map}
 use Rattle.std.proofs.lemmas.Iterator.{YieldsList, YieldsList-from_take, YieldsList-from_map, maps}
-use Rattle.std.proofs.lemmas.Iterator.Adapters.{YieldsList-from_skip}
+use Rattle.std.proofs.lemmas.Bool.{cases_lt}
 use Rattle.std.proofs.lemmas.Iterator.Consumers.{YieldsList-at, YieldsList-from_enumerate, YieldsList-turn, YieldsList-end}
 use Rattle.std.proofs.lemmas.Iterator.Splits.{YieldsList-from_slice_split}
-use Rattle.std.proofs.lemmas.List.{drop_more, drop_all, length-drop, get_or-drop}
+use Rattle.std.proofs.lemmas.List.{drop_more, drop_all, take_all, length-drop, get_or-drop}
 use Rattle.std.proofs.lemmas.List.FromFn.{length-enumerate_from, get_or-enumerate_from}
 use Rattle.std.proofs.lemmas.List.Sums.{sum_by-cons, sum_by-take-le}
 use Rattle.std.specs.Fn.{Called, CalledAt}
 use Rattle.std.specs.Iterator.{Yields}
-use Rattle.std.specs.Iterator.Adapters.{map_source, map_callee, take_source, take_count, take_steps, skip_source, skip_count, skip_steps, enumerate_source, enumerate_count, enumerate_steps}
+use Rattle.std.specs.Iterator.Adapters.{map_source, map_callee, take_source, take_count, take_steps, enumerate_source, enumerate_count, enumerate_steps}
 use Rattle.std.specs.List.{sum_by, enumerate_from, onto_first}
 use Rattle.std.specs.Slice.Iter as slice
 use denote.Param.Members.{Mut}
 use denote.Ref.{Bor}
 use Rattle.text.specs.Split.{before, parted, tally}
-use Rattle.text.proofs.Splits.{parted_first, parted_some, length-parted}
+use Rattle.text.proofs.Splits.{before_short, parted_first, parted_last, parted_more, parted_some, length-parted}
 use Rattle.sheet.specs.declared.fault.LineFault.{LineFault}
 use Rattle.sheet.specs.declared.kind.Kind.{Kind}
 use Rattle.sheet.specs.Reading.{offset_of, on_ok, spotted, value_of, value_next, values_of}
@@ -26,13 +26,27 @@ pub fields_given : {F : Type 0} {s : _} (g : Mut F (Bor ℕ × Unit {0}) Bool) {
 fields_given g xs rest done callee calls =
     YieldsList-from_slice_split g (λ x. eqb x 9) xs rest done callee calls
 
--- the fields behind the kind, with their numbers
-pub fields_numbered : {F : Type 0} {s : _} (g : Mut F (Bor ℕ × Unit {0}) Bool) {f : F} (xs : List ℕ) → slice.split_rest s ≡ xs → slice.split_done s ≡ false → slice.split_callee s ≡ f
-    → {e : _} → enumerate_source e ≡ s → enumerate_count e ≡ 0 → {k : _} → skip_source k ≡ e → skip_count k ≡ 1 → {i : _} → i ≡ k
-    → ((x : ℕ) (b : Bool) (q : F) → CalledAt g f x b q → (q ≡ f) × (b ≡ eqb x 9))
-    → YieldsList {B = ℕ × List ℕ} (skip_steps (enumerate_steps (slice.split_steps g))) (λ p. (p.0, p.1.now)) i (drop 1 (enumerate_from 0 (parted 9 xs)))
-fields_numbered g xs rest done callee source none skipped one same calls =
-    YieldsList-at same (YieldsList-from_skip 1 (YieldsList-at skipped (YieldsList-from_enumerate (YieldsList-at source (fields_given g xs rest done callee calls)) none)) one)
+-- a line whose kind is one byte with a tab behind it: the fields behind the kind are those of what stands behind that tab
+module _ (xs : List ℕ) (one : length (before 9 xs) ≡ 1) (some : 1 ≤ tally 9 xs) where
+  tab_behind : length (before 9 xs) < length xs
+  tab_behind =
+      ⊎_elim (λ l. l) (λ l. absurd (omega (arith, before_short 9 xs, length-parted 9 xs, ap length (parted_last 9 xs (omega (arith, before_short 9 xs))))))
+      (cases_lt (length (before 9 xs)) (length xs))
+
+  fields_behind : parted 9 (take (length xs - 2) (drop 2 xs)) ≡ drop 1 (parted 9 xs)
+  fields_behind =
+      let two : suc (length (before 9 xs)) ≡ 2 = omega arith in
+      ap (parted 9) (take_all (length xs - 2) (drop 2 xs) (omega (arith, length-drop 2 xs)))
+      ∙ sym (ap (drop 1) (parted_more 9 xs tab_behind) ∙ ap (λ k. parted 9 (drop k xs)) two)
+
+  -- as the loop over them is given them, counted from 0
+  pub fields_counted : {F : Type 0} {s : _} (g : Mut F (Bor ℕ × Unit {0}) Bool) {f : F} → slice.split_rest s ≡ take (length xs - 2) (drop 2 xs) → slice.split_done s ≡ false → slice.split_callee s ≡ f
+      → {e : _} → enumerate_source e ≡ s → enumerate_count e ≡ 0 → {i : _} → i ≡ e
+      → ((x : ℕ) (b : Bool) (q : F) → CalledAt g f x b q → (q ≡ f) × (b ≡ eqb x 9))
+      → YieldsList {B = ℕ × List ℕ} (enumerate_steps (slice.split_steps g)) (λ p. (p.0, p.1.now)) i (enumerate_from 0 (drop 1 (parted 9 xs)))
+  fields_counted g rest done callee source none same calls =
+      subst (YieldsList (enumerate_steps (slice.split_steps g)) (λ p. (p.0, p.1.now)) _) (ap (enumerate_from 0) fields_behind)
+      (YieldsList-at same (YieldsList-from_enumerate (YieldsList-at source (fields_given g _ rest done callee calls)) none))
 
 -- how far it is from a field to the one behind it
 abbrev pub wide : List ℕ → ℕ
@@ -132,9 +146,9 @@ pub on_ok_id : (r : Result (List ℕ) LineFault) → on_ok (λ ms. [] ++ ms) r �
 on_ok_id (Ok ms) = refl
 on_ok_id (Err e) = refl
 
--- the item of a turn of the loop over the numbered fields behind the kind
+-- the item of a turn of the loop over the counted fields behind the kind
 abbrev pub IsTurn : List (List ℕ) → ℕ → ℕ × List ℕ → Type 0
-IsTurn fs n p = (n < length (drop 1 (enumerate_from 0 fs))) × (p ≡ get_or (drop 1 (enumerate_from 0 fs)) n p)
+IsTurn fs n p = (n < length (enumerate_from 0 (drop 1 fs))) × (p ≡ get_or (enumerate_from 0 (drop 1 fs)) n p)
 
 -- what is left of the values, where ns are those before the turn
 abbrev pub values_left : Kind → List (List ℕ) → List ℕ → ℕ → Result (List ℕ) LineFault
@@ -142,16 +156,16 @@ values_left kind fs ns n = on_ok (λ ms. ns ++ ms) (values_of kind (n + 1) (offs
 
 -- a loop over them, by the chain that it goes over
 module _ {S A : Type 0} {steps : S → Option A → S → Type 0} {s : S} {v : A → ℕ × List ℕ} (xs : List ℕ) (seen : List A) (t : S) (by : Yields steps s seen t) (r : Option A) (u : S) (step : steps t r u) where
-  pub turn_is : (x : A) → r ≡ Some x → YieldsList steps v s (drop 1 (enumerate_from 0 (parted 9 xs))) → IsTurn (parted 9 xs) (length seen) (v x)
+  pub turn_is : (x : A) → r ≡ Some x → YieldsList steps v s (enumerate_from 0 (drop 1 (parted 9 xs))) → IsTurn (parted 9 xs) (length seen) (v x)
   turn_is x is given = YieldsList-turn given seen t by r u x is step
 
-  pub end_is : r ≡ None → YieldsList steps v s (drop 1 (enumerate_from 0 (parted 9 xs))) → length seen ≡ tally 9 xs
+  pub end_is : r ≡ None → YieldsList steps v s (enumerate_from 0 (drop 1 (parted 9 xs))) → length seen ≡ tally 9 xs
   end_is is given =
       omega (
         arith,
         (YieldsList-end given seen t by r u is step).1,
-        length-drop 1 (enumerate_from 0 (parted 9 xs)),
-        length-enumerate_from 0 (parted 9 xs),
+        length-enumerate_from 0 (drop 1 (parted 9 xs)),
+        length-drop 1 (parted 9 xs),
         length-parted 9 xs,
       )
 
@@ -164,25 +178,25 @@ values_end kind xs ns n e =
 
 module _ (fs : List (List ℕ)) (n : ℕ) (p : ℕ × List ℕ) (turn : IsTurn fs n p) where
   pub turn_within : n + 1 < length fs
-  turn_within = omega (arith, turn.0, length-drop 1 (enumerate_from 0 fs), length-enumerate_from 0 fs)
+  turn_within = omega (arith, turn.0, length-enumerate_from 0 (drop 1 fs), length-drop 1 fs)
 
-  numbered : p ≡ (1 + n, get_or fs (1 + n) p.1)
-  numbered =
-      turn.1 ∙ get_or-drop 1 (enumerate_from 0 fs) n p ∙ get_or-enumerate_from 0 fs (1 + n) p (omega (arith, turn_within))
-      ∙ ap (λ i. (i, get_or fs (1 + n) p.1)) (let s : 0 + (1 + n) ≡ 1 + n = omega arith in s)
+  counted : p ≡ (n, get_or fs (1 + n) p.1)
+  counted =
+      turn.1 ∙ get_or-enumerate_from 0 (drop 1 fs) n p (omega (arith, turn_within, length-drop 1 fs))
+      ∙ ap (λ b. (0 + n, b)) (get_or-drop 1 fs n p.1) ∙ ap (λ i. (i, get_or fs (1 + n) p.1)) (let s : 0 + n ≡ n = omega arith in s)
 
-  field : p.0 ≡ n + 1
-  field = omega (arith, ap (λ q. q.0) numbered)
+  field : p.0 + 1 ≡ n + 1
+  field = omega (arith, ap (λ q. q.0) counted)
 
   bytes : p.1 ≡ get_or fs (n + 1) p.1
-  bytes = ap (λ q. q.1) numbered ∙ ap (λ i. get_or fs i p.1) (let s : 1 + n ≡ n + 1 = omega arith in s)
+  bytes = ap (λ q. q.1) counted ∙ ap (λ i. get_or fs i p.1) (let s : 1 + n ≡ n + 1 = omega arith in s)
 
   parts : drop (n + 1) fs ≡ p.1 ∷ drop (n + 1 + 1) fs
   parts = drop_more fs (n + 1) p.1 turn_within ∙ ap (λ f. f ∷ drop (n + 1 + 1) fs) (sym bytes)
 
   module _ (kind : Kind) (ns : List ℕ) where
     -- by what the field reads as
-    here : (r : Result ℕ LineFault) → r ≡ spotted p.0 (offset_of fs p.0) (value_of kind p.0 p.1)
+    here : (r : Result ℕ LineFault) → r ≡ spotted (p.0 + 1) (offset_of fs (p.0 + 1)) (value_of kind (p.0 + 1) p.1)
         → values_of kind (n + 1) (offset_of fs (n + 1)) (drop (n + 1) fs) ≡ value_next r (values_of kind (n + 1 + 1) (offset_of fs (n + 1 + 1)) (drop (n + 1 + 1) fs))
     here r e =
         let k = n + 1 in
@@ -192,9 +206,9 @@ module _ (fs : List (List ℕ)) (n : ℕ) (p : ℕ × List ℕ) (turn : IsTurn f
         ∙ ap (value_next r) (values_behind kind fs k p.1 (drop (k + 1) fs) parts)
 
     -- a field that is malformed
-    pub turn_stop : (x : LineFault) → Err x ≡ spotted p.0 (offset_of fs p.0) (value_of kind p.0 p.1) → Err x ≡ values_left kind fs ns n
+    pub turn_stop : (x : LineFault) → Err x ≡ spotted (p.0 + 1) (offset_of fs (p.0 + 1)) (value_of kind (p.0 + 1) p.1) → Err x ≡ values_left kind fs ns n
     turn_stop x e = sym (ap (on_ok (λ ms. ns ++ ms)) (here (Err x) e))
 
     -- a field that is a number
-    pub turn_more : (m : ℕ) → Ok m ≡ spotted p.0 (offset_of fs p.0) (value_of kind p.0 p.1) → values_left kind fs (ns ++ m ∷ []) (n + 1) ≡ values_left kind fs ns n
+    pub turn_more : (m : ℕ) → Ok m ≡ spotted (p.0 + 1) (offset_of fs (p.0 + 1)) (value_of kind (p.0 + 1) p.1) → values_left kind fs (ns ++ m ∷ []) (n + 1) ≡ values_left kind fs ns n
     turn_more m e = sym (ap (on_ok (λ ms. ns ++ ms)) (here (Ok m) e) ∙ on_ok_cons ns m (values_of kind (n + 1 + 1) (offset_of fs (n + 1 + 1)) (drop (n + 1 + 1) fs)))

@@ -1,5 +1,5 @@
 -- The lines of faults and entries, and what printing them answers.
-use Rattle.std.proofs.Common.{◌≡◌, ◌*◌, ◌^◌, ◌<◌, ◌≤◌, List, [], ◌∷◌, length, ap, ◌∙◌, arith, ℕ, Result}
+use Rattle.std.proofs.Common.{◌≡◌, ◌*◌, ◌^◌, ◌<◌, ◌≤◌, List, [], ◌∷◌, length, refl, ap, ◌∙◌, arith, ℕ, Result}
 use Rattle.std.proofs.lemmas.List.{length-append}
 use Rattle.std.specs.List.{flat_map, AllByRecursion}
 use Rattle.text.proofs.Texts.{cell_short, length-line_text}
@@ -14,17 +14,22 @@ use Rattle.sheet.specs.declared.fault.SheetFault.{SheetFault}
 use Rattle.sheet.specs.declared.run.Entry.{Entry}
 use Rattle.sheet.specs.Faults.{layer_number, sheet_report_of}
 use Rattle.sheet.specs.Reading.{letter_of}
-use Rattle.sheet.specs.Texts.{fault_cells, fault_text, entry_cells, entry_text, sheet_answer}
+use Rattle.sheet.specs.Texts.{fault_cells, fault_text, lettered_text, entry_text, sheet_answer}
 
 -- what printing the bytes t answers and leaves, where they are those of u
 pub printed_as : (t u xs ys : List ℕ) (r : Result ℕ SheetFault) → r ≡ sheet_answer (printed_into t xs).0 → ys ≡ (printed_into t xs).1 → t ≡ u
     → (r ≡ sheet_answer (printed_into u xs).0) × (ys ≡ (printed_into u xs).1)
 printed_as t u xs ys r h l is = (h ∙ ap (λ b. sheet_answer (printed_into b xs).0) is, l ∙ ap (λ b. (printed_into b xs).1) is)
 
--- the line of an entry
-pub entry_line : (e : Entry) (cs : List Cell) → cs ≡ entry_cells e → line_text (Number e.line) cs ≡ entry_text e
-unfolding entry_text
-entry_line e cs q = ap (line_text (Number e.line)) q
+-- the line of a letter and an answer
+pub lettered_line : (line letter answer : ℕ) (cs : List Cell) → cs ≡ Symbol letter ∷ Number answer ∷ [] → line_text (Number line) cs ≡ lettered_text line letter answer
+unfolding lettered_text
+lettered_line line letter answer cs q = ap (line_text (Number line)) q
+
+-- an accepted line's is that of its kind's letter
+pub entry_lettered : (e : Entry) → lettered_text e.line (letter_of e.kind) e.answer ≡ entry_text e
+unfolding lettered_text entry_text
+entry_lettered e = refl
 
 -- the line of a fault
 pub fault_line : (f : SheetFault) (r : FaultReport) (cs : List Cell) → r ≡ sheet_report_of f → cs ≡ fault_cells r → line_text (Symbol 69) cs ≡ fault_text f
@@ -45,15 +50,15 @@ joined_short [] h = omega arith
 joined_short (c ∷ cs) h =
     omega (arith, length-append (cell_field c) (flat_map cell_field cs), fits_short c h.0, joined_short cs h.1)
 
-pub entry_short : (e : Entry) → e.line < 2 ^ 64 → e.answer < 2 ^ 64 → length (entry_text e) ≤ 44
-unfolding entry_text
-entry_short e l a =
+pub lettered_short : (line letter answer : ℕ) → line < 2 ^ 64 → answer < 2 ^ 64 → length (lettered_text line letter answer) ≤ 44
+unfolding lettered_text
+lettered_short line letter answer l a =
     omega (
       arith,
-      length-line_text (Number e.line) (entry_cells e),
-      length-append (cell_field (Symbol (letter_of e.kind))) (flat_map cell_field (Number e.answer ∷ [])),
-      cell_short e.line l,
-      joined_short (Number e.answer ∷ []) (a, tt),
+      length-line_text (Number line) (Symbol letter ∷ Number answer ∷ []),
+      length-append (cell_field (Symbol letter)) (flat_map cell_field (Number answer ∷ [])),
+      cell_short line l,
+      joined_short (Number answer ∷ []) (a, tt),
     )
 
 layer_small : (l : Layer) → layer_number l < 2 ^ 64

@@ -28,6 +28,10 @@ entry_cells e = Symbol (letter_of e.kind) ∷ Number e.answer ∷ []
 unfoldable pub entry_text : Entry → List ℕ
 entry_text e = line_text (Number e.line) (entry_cells e)
 
+-- the same of a letter that may be any byte
+unfoldable pub lettered_text : ℕ → ℕ → ℕ → List ℕ
+lettered_text line letter answer = line_text (Number line) (Symbol letter ∷ Number answer ∷ [])
+
 -- what printing answers, with its refusal as the sheet's
 abbrev pub sheet_answer : Result ℕ PrintFault → Result ℕ SheetFault
 sheet_answer r = result_map_both (λ n. n) (λ e. NoRoom) r

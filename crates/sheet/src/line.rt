@@ -31,8 +31,11 @@ fn place(bytes: &[u8], answer: Result<u32, BoardFault>) -> Result<u32, LineFault
 }
 
 // Makes the call that a line asks for, and answers the line's kind and what the board answered.
+#[tactic(auto, using(crate::proofs::Offsets::fields_stand, crate::proofs::Spotted::numbers_spotted))]
 pub(crate) fn run(board: &mut Board, bytes: &[u8]) -> Result<(Kind, u32), LineFault>
     ensures called { LineCalled board.old bytes.now (on_ok (λ a. a.1) result) board.new }
+    ensures fields { FieldsStand bytes.now }
+    ensures spots { NumbersSpotted bytes.now }
     ensures kind { IfOk result (λ a. letter (slice_index bytes.now 0) ≡ Some a.0) }
 {
     let request = read(bytes)?;

@@ -2,7 +2,7 @@
 ghost use Rattle.std.specs.Prelude.{◌≡◌, ℕ, ◌≤◌, List, length};
 ghost use Rattle.text.specs.Cells.{line_text};
 ghost use Rattle.text.specs.Print.{printed_into};
-ghost use Rattle.sheet.specs.Texts.{fault_cells, fault_text, entry_text, sheet_answer};
+ghost use Rattle.sheet.specs.Texts.{fault_cells, fault_text, lettered_text, entry_text, sheet_answer};
 
 use crate::fault::{FaultReport, SheetFault};
 use crate::run::Entry;
@@ -58,6 +58,22 @@ impl Printed for SheetFault {
     }
 }
 
+// Prints the number of a line, a letter, which may be any byte, and an answer; where there is no room for them, refuses and
+// leaves `place` as it was.
+pub fn print_entry(
+    place: &mut [u8],
+    line: usize,
+    letter: u8,
+    answer: u32,
+) -> Result<usize, SheetFault>
+    ensures answer { result ≡ sheet_answer (printed_into (lettered_text line letter answer) place.old).0 }
+    ensures after { place.new ≡ (printed_into (lettered_text line letter answer) place.old).1 }
+    ensures short { length (lettered_text line letter answer) ≤ 44 }
+{
+    let cells = [Cell::Symbol(letter), Cell::Number(u64::from(answer))];
+    print_cells(place, Cell::Number(line as u64), &cells)
+}
+
 // What an accepted line did is printed as its number, its kind's letter and its call's answer.
 impl Printed for Entry {
     ghost text = { entry_text };
@@ -65,8 +81,6 @@ impl Printed for Entry {
     ghost most = { 44 };
 
     fn print(&self, place: &mut [u8]) -> Result<usize, SheetFault> {
-        let Entry { line, kind, answer } = *self;
-        let cells = [Cell::Symbol(kind.letter()), Cell::Number(u64::from(answer))];
-        print_cells(place, Cell::Number(line as u64), &cells)
+        print_entry(place, self.line, self.kind.letter(), self.answer)
     }
 }

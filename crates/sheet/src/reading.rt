@@ -1,5 +1,5 @@
 // What a line asks for.
-ghost use Rattle.std.specs.Prelude.{◌≡◌, ◌≤◌, length, drop, slice_index, Some, IfOk};
+ghost use Rattle.std.specs.Prelude.{◌≡◌, ◌≤◌, [], length, drop, slice_index, Some, IfOk};
 ghost use Rattle.text.specs.Split.{before, tally, parted};
 ghost use Rattle.sheet.specs.Reading.{letter, offset_of, value_of, spotted, on_ok, values_of, steps_of, call_for, reading_of, call_of, asking};
 
@@ -73,17 +73,24 @@ fn value_at(kind: Kind, line: &[u8], field: usize, bytes: &[u8]) -> Result<u32, 
     })?)
 }
 
-// The numbers behind the kind of a line, whose kind is one byte.
-fn read_numbers(kind: Kind, line: &[u8]) -> Result<Short<u32, MOST_NUMBERS>, LineFault>
-    requires { (tally 9 line.now ≤ 16) × (length (before 9 line.now) ≡ 1) }
-    ensures value { on_ok (λ numbers. numbers.items) result ≡ values_of kind 1 2 (drop 1 (parted 9 line.now)) }
-    ensures len { IfOk result (λ numbers. length numbers.items ≡ tally 9 line.now) }
+// Reads the numbers behind the kind of a line, whose kind is one byte with a tab behind it, into a list without items. The
+// list is lent, so that it is not copied.
+fn read_numbers(
+    kind: Kind,
+    line: &[u8],
+    numbers: &mut Short<u32, MOST_NUMBERS>,
+) -> Result<(), LineFault>
+    requires empty { numbers.old.items ≡ [] }
+    requires few { tally 9 line.now ≤ 16 }
+    requires some { 1 ≤ tally 9 line.now }
+    requires kind { length (before 9 line.now) ≡ 1 }
+    ensures value { on_ok (λ _. numbers.new.items) result ≡ values_of kind 1 2 (drop 1 (parted 9 line.now)) }
+    ensures len { IfOk result (λ _. length numbers.new.items ≡ tally 9 line.now) }
 {
-    let mut numbers = Short::empty(0);
-    for (field, bytes) in line.split(|b| *b == TAB).enumerate().skip(1) {
-        numbers.push(value_at(kind, line, field, bytes)?);
+    for (k, bytes) in line[2..].split(|b| *b == TAB).enumerate() {
+        numbers.push(value_at(kind, line, k + 1, bytes)?);
     }
-    Ok(numbers)
+    Ok(())
 }
 
 // The steps that pairs of numbers give.
@@ -128,6 +135,7 @@ pub(crate) fn read(bytes: &[u8]) -> Result<Request, LineFault>
     if !kind.fits(count(bytes, TAB)) {
         return Err(LineFault::FieldCount);
     }
-    let numbers = read_numbers(kind, bytes)?;
+    let mut numbers = Short::empty(0);
+    read_numbers(kind, bytes, &mut numbers)?;
     Ok(asked(kind, &numbers))
 }
