@@ -2,9 +2,9 @@
 ghost use Rattle.std.specs.Prelude.{◌≡◌, ◌+◌, ◌≤◌, length, drop};
 ghost use Rattle.text.specs.Split.{before, tally, Parts, Ends};
 
-// The index of the first `b` at `from` or after; the length where there is none, and `from` past it. It is what cuts `s`
-// into the pieces that `b` parts, or ends. It is a number and no `Option`: where no `b` is left, the last piece ends at
-// the end of the bytes.
+// The index of the first `b` at `from` or after; the length where there is none, and `from` past it. It tells
+// where a piece that `b` parts, or ends, comes to its end. It is a number and no `Option`: where no `b` is left, the last
+// piece ends at the end of the bytes.
 pub fn find(s: &[u8], from: usize, b: u8) -> usize
     ensures is { result ≡ from + length (before b (drop from s.now)) }
     ensures within { from ≤ length s.now → result ≤ length s.now }

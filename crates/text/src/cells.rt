@@ -98,7 +98,8 @@ fn field_width(cell: Cell) -> usize
     }
 }
 
-// Whether the cells, each behind its tab, fit into `room` bytes. It looks at none behind the first that does not fit.
+// Whether the cells, each behind its tab, fit into `room` bytes. It looks at none behind the first that does not fit, where
+// a sum of their widths would look at every cell.
 fn fields_fit(room: usize, cells: &[Cell]) -> bool
     ensures { result ≡ nat_le (length (flat_map cell_field cells.now)) room }
 {
