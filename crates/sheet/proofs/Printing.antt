@@ -14,7 +14,7 @@ use Rattle.sheet.specs.declared.fault.SheetFault.{SheetFault}
 use Rattle.sheet.specs.declared.run.Entry.{Entry}
 use Rattle.sheet.specs.Faults.{layer_number, sheet_report_of}
 use Rattle.sheet.specs.Reading.{letter_of}
-use Rattle.sheet.specs.Texts.{fault_cells, fault_text, lettered_text, entry_text, sheet_answer}
+use Rattle.sheet.specs.Texts.{fault_cells, fault_text, lettered_text, entry_cells, entry_text, sheet_answer}
 
 -- what printing the bytes t answers and leaves, where they are those of u
 pub printed_as : (t u xs ys : List ℕ) (r : Result ℕ SheetFault) → r ≡ sheet_answer (printed_into t xs).0 → ys ≡ (printed_into t xs).1 → t ≡ u
@@ -26,10 +26,15 @@ pub lettered_line : (line letter answer : ℕ) (cs : List Cell) → cs ≡ Symbo
 unfolding lettered_text
 lettered_line line letter answer cs q = ap (line_text (Number line)) q
 
+-- the line of an entry
+pub entry_line : (e : Entry) (cs : List Cell) → cs ≡ entry_cells e → line_text (Number e.line) cs ≡ entry_text e
+unfolding entry_text
+entry_line e cs q = ap (line_text (Number e.line)) q
+
 -- an accepted line's is that of its kind's letter
 pub entry_lettered : (e : Entry) → lettered_text e.line (letter_of e.kind) e.answer ≡ entry_text e
-unfolding lettered_text entry_text
-entry_lettered e = refl
+unfolding lettered_text
+entry_lettered e = entry_line e (entry_cells e) refl
 
 -- the line of a fault
 pub fault_line : (f : SheetFault) (r : FaultReport) (cs : List Cell) → r ≡ sheet_report_of f → cs ≡ fault_cells r → line_text (Symbol 69) cs ≡ fault_text f
@@ -60,6 +65,9 @@ lettered_short line letter answer l a =
       cell_short line l,
       joined_short (Number answer ∷ []) (a, tt),
     )
+
+pub entry_short : (e : Entry) → e.line < 2 ^ 64 → e.answer < 2 ^ 64 → length (entry_text e) ≤ 44
+entry_short e l a = omega (arith, lettered_short e.line (letter_of e.kind) e.answer l a, ap length (entry_lettered e))
 
 layer_small : (l : Layer) → layer_number l < 2 ^ 64
 layer_small layer.Text = omega arith

@@ -4,7 +4,8 @@ use native.Mathlib.Nat.{pow-le-pow_right}
 use Rattle.std.proofs.lemmas.Fmt.{length-decimal-le, decimal_by_steps}
 use Rattle.std.proofs.lemmas.Bool.{cases_lt}
 use Rattle.std.proofs.lemmas.List.{length-append, length_push, take_more, flat_map_more, at_drop_more}
-use Rattle.std.specs.List.{flat_map}
+use Rattle.std.proofs.lemmas.List.Concat.{length-flat_map}
+use Rattle.std.specs.List.{flat_map, sum_by}
 use Rattle.text.specs.declared.cells.Cell.{Cell}
 use Rattle.text.specs.declared.cells.Cell.TheVariants.{Number}
 use Rattle.text.specs.Cells.{cell_text, cell_field, line_text}
@@ -32,6 +33,11 @@ length_by_log n k f l h =
 pub length-line_text : (c : Cell) (cs : List Cell) → length (line_text c cs) ≡ length (cell_text c) + (length (flat_map cell_field cs) + 1)
 unfolding line_text
 length-line_text c cs = length-append (cell_text c) (flat_map cell_field cs ++ (10 ∷ [])) ∙ ap (λ n. length (cell_text c) + n) (length-append (flat_map cell_field cs) (10 ∷ []))
+
+-- the same as a sum: each cell has a tab or the line feed behind it
+pub line_text_sum : (c : Cell) (cs : List Cell) → length (line_text c cs) ≡ sum_by (λ x. length (cell_field x)) (c ∷ cs)
+line_text_sum c cs =
+    omega (arith, length-line_text c cs, length-flat_map cell_field (c ∷ cs), length-append (cell_field c) (flat_map cell_field cs))
 
 -- a step of a loop over what is joined: what it has passed, and what is left
 pub joined_take : {X : Type 0} (f : X → List ℕ) (xs : List X) (i : ℕ) (d : X) → i < length xs → flat_map f (take (i + 1) xs) ≡ flat_map f (take i xs) ++ f (get_or xs i d)
